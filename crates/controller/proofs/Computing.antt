@@ -1,0 +1,43 @@
+-- What a computed run opens: `unfolding rules` opens every rule of a step. Only worked cases and computed runs do so.
+-- Assumes nothing.
+use Rattle.common.specs.Lists.{some, eachFrom}
+use Rattle.voter.specs.Voting.{voted, votedBy, ofThree, ofTwo, freshWith, valueOf, isInvalid}
+use Rattle.sequence.specs.Moves.{atAim, nextGears, doorsToGears, doorsHome, moveOf}
+use Rattle.orders.specs.Timing.{grownAge, grown, allGrown, onFor, offFor, switched, wantedOf, directed, offTogether, generalOf, ordersOf}
+use Rattle.monitors.specs.Causes.{causes, causeOf}
+use Rattle.controller.specs.Votes.{allVoted, sensor, threeFrom, someInvalid, sightOf, seenOf, aimed}
+use Rattle.controller.specs.Start.{offLong, freshOrders, freshCore, freshVoters, freshOf}
+use Rattle.controller.specs.Stages.{
+  anomaly,
+  coreAges,
+  coreHandle,
+  coreMonitors,
+  coreSequence,
+  coreOrders,
+  coreStep,
+  elapsedOf,
+  agesStage,
+  turned,
+  voteStage,
+  monitorsStage,
+  sequenceStage,
+  ordersStage,
+  accepted,
+}
+use Rattle.controller.specs.Steps.{someOverOne, refusalOf, stepOf}
+use Rattle.controller.specs.Lamps.{lightsOf, shownOf}
+use Rattle.controller.specs.SessionS.{agreeing, sample, answers, lineOf}
+
+unfoldable pub rules : Unit {0}
+unfolding
+    voted votedBy ofThree ofTwo freshWith valueOf isInvalid
+    atAim nextGears doorsToGears doorsHome moveOf
+    grownAge grown allGrown onFor offFor switched wantedOf directed offTogether generalOf ordersOf
+    causes causeOf
+    allVoted sensor threeFrom someInvalid sightOf seenOf aimed
+    offLong freshOrders freshCore freshVoters freshOf
+    anomaly coreAges coreHandle coreMonitors coreSequence coreOrders coreStep
+    elapsedOf agesStage turned voteStage monitorsStage sequenceStage ordersStage accepted
+    someOverOne refusalOf stepOf lightsOf shownOf
+    agreeing sample answers lineOf some eachFrom
+rules = tt

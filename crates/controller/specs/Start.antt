@@ -1,0 +1,36 @@
+-- Document 01, "The sample": a fresh start takes a stamp and gives doors CLOSED, gears EXTENDED, five orders off, no anomaly,
+-- all channels valid, handle held down, other sensors held 0, every age 60,000.
+-- Assumes nothing.
+use mathlib.Core.Bool.{true, false}
+use mathlib.Core.List.{List, [], _∷_}
+use Prim.Native.Nat.{ℕ}
+use lib.ListN.{replicate}
+use Rattle.voter.specs.declared.Voter.{Voter}
+use Rattle.voter.specs.Voting.{freshWith}
+use Rattle.sequence.specs.declared.Doors.the-variants.{Closed}
+use Rattle.sequence.specs.declared.Gears.the-variants.{Extended}
+use Rattle.sequence.specs.Moves.{place}
+use Rattle.orders.specs.declared.Order.{Order}
+use Rattle.orders.specs.declared.Orders.{Orders}
+use Rattle.orders.specs.Timing.{order}
+use Rattle.controller.specs.declared.Core.{Core}
+use Rattle.controller.specs.declared.State.{State}
+
+-- Off, with age 60,000.
+unfoldable pub offLong : Order
+offLong = order false 60000
+
+-- Five orders off.
+unfoldable pub freshOrders : Orders
+freshOrders = record { general = offLong; closes = offLong; opens = offLong; retracts = offLong; extends = offLong }
+
+-- Doors CLOSED, gears EXTENDED, no anomaly.
+unfoldable pub freshCore : Core
+freshCore = record { orders = freshOrders; since = 60000; place = place Closed Extended; cause = 0 }
+
+-- All channels valid, handle held down, the other seventeen held 0.
+unfoldable pub freshVoters : List Voter
+freshVoters = freshWith true ∷ replicate 17 (freshWith false)
+
+unfoldable pub freshOf : ℕ → State
+freshOf stamp = record { stamp = stamp; voters = freshVoters; core = freshCore }

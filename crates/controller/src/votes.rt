@@ -1,0 +1,100 @@
+// What a sample and its votes say (specs/Votes.antt; document 01, "The sample").
+ghost use mathlib.Core.Path.{_≡_};
+ghost use Prim.Native.Nat.{_+_, _<_};
+ghost use lib.ListN.{length};
+ghost use Rattle.controller.specs.Votes.{allVoted, sensor, threeFrom, someInvalid, sightOf, seenOf, aimed};
+use monitors::Sight;
+use monitors::Three;
+use sequence::Aim;
+use sequence::Seen;
+use voter::Voter;
+
+// Every sensor votes over its three channels, which stand side by side in the sample.
+pub(crate) fn all_voted(voters: [Voter; 18], sample: &[u8]) -> [Voter; 18]
+    requires { ⌜ length (now sample) ≡ 54 ⌝ }
+    ensures { λ r. ⌜ r ≡ allVoted (now (sample .entry)) voters ⌝ }
+{
+    let mut after = voters;
+    let mut i = 0;
+    while i < 18 {
+        let v = after[i];
+        let at = 3 * i;
+        after[i] = v.vote(sample[at] == 1, sample[at + 1] == 1, sample[at + 2] == 1);
+        i += 1;
+    }
+    after
+}
+
+// The voted value of a sensor.
+pub(crate) fn value_at(voters: [Voter; 18], i: usize) -> bool
+    requires { ⌜ i < 18 ⌝ }
+    ensures { λ r. ⌜ r ≡ sensor i voters ⌝ }
+{
+    let v = voters[i];
+    v.value()
+}
+
+// What three sensors side by side say.
+fn three_from(voters: [Voter; 18], i: usize) -> Three
+    requires { ⌜ i + 2 < 18 ⌝ }
+    ensures { λ r. ⌜ r ≡ threeFrom i voters ⌝ }
+{
+    let front = value_at(voters, i);
+    let left = value_at(voters, i + 1);
+    let right = value_at(voters, i + 2);
+    Three {
+        any: front | left | right,
+        all: front & left & right,
+    }
+}
+
+// Whether some sensor is invalid.
+fn some_invalid(voters: [Voter; 18]) -> bool
+    ensures { λ r. ⌜ r ≡ someInvalid voters ⌝ }
+{
+    let mut seen = false;
+    let mut i = 0;
+    while i < 18 {
+        let v = voters[i];
+        seen = seen | v.invalid();
+        i += 1;
+    }
+    seen
+}
+
+// All that the monitors look at.
+pub(crate) fn sight(voters: [Voter; 18]) -> Sight
+    ensures { λ r. ⌜ r ≡ sightOf voters ⌝ }
+{
+    Sight {
+        closed: three_from(voters, 11),
+        opened: three_from(voters, 14),
+        extended: three_from(voters, 2),
+        retracted: three_from(voters, 5),
+        pressurized: value_at(voters, 17),
+        switch: value_at(voters, 1),
+        invalid: some_invalid(voters),
+    }
+}
+
+// What the sequence looks at.
+pub(crate) fn seen(see: Sight) -> Seen
+    ensures { λ r. ⌜ r ≡ seenOf see ⌝ }
+{
+    Seen {
+        opened: see.opened.all,
+        closed: see.closed.all,
+        extended: see.extended.all,
+        retracted: see.retracted.all,
+    }
+}
+
+// What the voted handle aims at.
+pub(crate) fn aim(voters: [Voter; 18]) -> Aim
+    ensures { λ r. ⌜ r ≡ aimed voters ⌝ }
+{
+    if value_at(voters, 0) {
+        return Aim::ToExtended;
+    }
+    Aim::ToRetracted
+}

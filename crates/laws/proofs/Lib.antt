@@ -1,0 +1,10 @@
+pub mod Wanted
+pub mod Kept
+pub mod Lifted
+pub mod Safety
+pub mod Watched
+pub mod Ground
+pub mod Computing
+pub mod Worked
+pub mod Sometimes
+pub mod Printed

@@ -1,0 +1,31 @@
+-- P1 to P12 of document 01 come out as it says: the rules compute.
+-- Assumes nothing.
+use mathlib.Core.Path.{refl}
+use Rattle.common.specs.Case.{AllAsWanted}
+use Rattle.voter.specs.Cases.{voterCases, shown, afterP1, channelsNumber}
+use Rattle.laws.specs.Cases.{
+  shownAnswer,
+  nothingSeen,
+  stepFrom,
+  opensAtGeneral,
+  opensAtOpposite,
+  closesAtOpposite,
+  retractsAtOpposite,
+  extendsAtOpposite,
+  generalAtOthers,
+  causeAtOpen,
+  causeAtHandle,
+  doorsDown,
+  doorsWord,
+  stepCases,
+  allCases,
+}
+use Rattle.controller.proofs.Computing.{rules}
+
+pub p1-to-p12 : AllAsWanted allCases
+unfolding
+    rules
+    voterCases shown afterP1 channelsNumber
+    shownAnswer nothingSeen stepFrom opensAtGeneral opensAtOpposite closesAtOpposite retractsAtOpposite extendsAtOpposite
+    generalAtOthers causeAtOpen causeAtHandle doorsDown doorsWord stepCases allCases
+p1-to-p12 = refl

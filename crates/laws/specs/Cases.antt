@@ -1,0 +1,138 @@
+-- Document 01, "Both sides of each threshold": P1 to P12 as one list. P1 to P3 are the voter's; P4 to P12 are worked over whole
+-- steps, of the controller or of its core.
+-- Assumes nothing.
+use mathlib.Core.Bool.{Bool, true, false}
+use mathlib.Core.List.{List, [], _∷_, _++_}
+use Prim.Native.Nat.{ℕ, _-_}
+use Rattle.common.specs.Ascii.{ascii}
+use Rattle.common.specs.Case.{Case, bit}
+use Rattle.voter.specs.Cases.{voterCases}
+use Rattle.sequence.specs.declared.Doors.{Doors}
+use Rattle.sequence.specs.declared.Doors.the-variants.{Closed, Opening, Open, Closing}
+use Rattle.sequence.specs.declared.Gears.the-variants.{Retracted, Extending, Extended, Retracting}
+use Rattle.sequence.specs.declared.Aim.{Aim}
+use Rattle.sequence.specs.declared.Aim.the-variants.{ToRetracted, ToExtended}
+use Rattle.sequence.specs.declared.Place.{Place}
+use Rattle.sequence.specs.Moves.{place}
+use Rattle.orders.specs.declared.Order.{Order}
+use Rattle.orders.specs.declared.Orders.{Orders}
+use Rattle.orders.specs.Timing.{order}
+use Rattle.monitors.specs.declared.Three.{Three}
+use Rattle.monitors.specs.declared.Sight.{Sight}
+use Rattle.controller.specs.declared.Core.{Core}
+use Rattle.controller.specs.declared.Answer.{Answer}
+use Rattle.controller.specs.Start.{freshOf, freshOrders}
+use Rattle.controller.specs.Stages.{elapsedOf, coreStep}
+use Rattle.controller.specs.Steps.{stepOf}
+use Rattle.controller.specs.SessionS.{sample}
+
+-- ---- A step of the controller
+
+-- An answer shown by its refusal and the last accepted stamp.
+unfoldable pub shownAnswer : Answer → List ℕ
+shownAnswer a = a .refusal ∷ a .state .stamp ∷ []
+
+-- ---- A step of the core, of 1 ms, in which the handle does not change
+
+-- The cases name ages as the step looks at them: grown. Before it they are 1 ms less.
+abbrev pub onFrom : ℕ → Order
+onFrom age = order true (age - 1)
+
+abbrev pub offFrom : ℕ → Order
+offFrom age = order false (age - 1)
+
+-- No cause yet; orders, the handle's age (grown), doors and gears.
+abbrev pub coreFrom : Orders → ℕ → Place → Core
+coreFrom os since p = record { orders = os; since = since - 1; place = p; cause = 0 }
+
+-- Sensors at which no door and no gear is seen anywhere, the switch is open and none is invalid; with or without pressure.
+unfoldable pub nothingSeen : Bool → Sight
+nothingSeen pressurized =
+    let none : Three = record { any = false; all = false } in
+    record {
+      closed = none;
+      opened = none;
+      extended = none;
+      retracted = none;
+      pressurized = pressurized;
+      switch = false;
+      invalid = false;
+    }
+
+unfoldable pub stepFrom : Core → Aim → Bool → Core
+stepFrom c aim pressurized = coreStep 1 false aim (nothingSeen pressurized) c
+
+-- General_EV on; the others off, each for so long.
+abbrev pub generalOnly : ℕ → ℕ → Orders
+generalOnly general others =
+    record {
+      general = onFrom general;
+      closes = offFrom others;
+      opens = offFrom others;
+      retracts = offFrom others;
+      extends = offFrom others;
+    }
+
+-- P6: doors OPENING, handle up. Is open_EV on after the step?
+unfoldable pub opensAtGeneral : ℕ → ℕ
+opensAtGeneral age = bit (stepFrom (coreFrom (generalOnly age 60000) 60000 (place Opening Extended)) ToRetracted false .orders .opens .on)
+
+-- P7: each of the four wanted, with general_EV on for long, its opposite (as all others) off for this age. Is it on?
+unfoldable pub opensAtOpposite : ℕ → ℕ
+opensAtOpposite age = bit (stepFrom (coreFrom (generalOnly 1000 age) 60000 (place Opening Extended)) ToRetracted false .orders .opens .on)
+
+unfoldable pub closesAtOpposite : ℕ → ℕ
+closesAtOpposite age = bit (stepFrom (coreFrom (generalOnly 1000 age) 60000 (place Closing Extended)) ToExtended false .orders .closes .on)
+
+unfoldable pub retractsAtOpposite : ℕ → ℕ
+retractsAtOpposite age = bit (stepFrom (coreFrom (generalOnly 1000 age) 60000 (place Open Retracting)) ToRetracted false .orders .retracts .on)
+
+unfoldable pub extendsAtOpposite : ℕ → ℕ
+extendsAtOpposite age = bit (stepFrom (coreFrom (generalOnly 1000 age) 60000 (place Open Extending)) ToExtended false .orders .extends .on)
+
+-- P8: doors CLOSED, gears EXTENDED, handle down, the four off for this age. Is general_EV on after the step?
+unfoldable pub generalAtOthers : ℕ → ℕ
+generalAtOthers age = bit (stepFrom (coreFrom (generalOnly 1500 age) 60000 (place Closed Extended)) ToExtended false .orders .general .on)
+
+-- P9: open_EV on for this age, no door seen closed and none open. The cause after the step.
+unfoldable pub causeAtOpen : ℕ → ℕ
+causeAtOpen age =
+    stepFrom (coreFrom (record { general = onFrom 10000; closes = offFrom 60000; opens = onFrom age; retracts = offFrom 60000; extends = offFrom 60000 }) 60000 (place Opening Extended)) ToRetracted true .cause
+
+-- P10: all at rest, the switch open at this handle age. The cause after the step.
+unfoldable pub causeAtHandle : ℕ → ℕ
+causeAtHandle since = stepFrom (coreFrom freshOrders since (place Closed Extended)) ToExtended false .cause
+
+-- P11, P12: handle down. The doors after the step.
+unfoldable pub doorsDown : Place → Doors
+doorsDown p = stepFrom (coreFrom (generalOnly 1000 1000) 60000 p) ToExtended false .place .doors
+
+-- Doors by their word.
+unfoldable pub doorsWord : Doors → List ℕ
+doorsWord Closed = ascii "CLOSED"
+doorsWord Opening = ascii "OPENING"
+doorsWord Open = ascii "OPEN"
+doorsWord Closing = ascii "CLOSING"
+
+-- ---- The list
+
+unfoldable pub stepCases : List Case
+stepCases =
+    record { name = "P4 stamps 4,294,967,290 then 4: elapsed 10"; gives = elapsedOf 4294967290 4 ∷ []; wanted = 10 ∷ [] } ∷
+    record { name = "P5 elapsed 100 taken"; gives = shownAnswer (stepOf (freshOf 0) 100 (sample 1 1 1 0)); wanted = 0 ∷ 100 ∷ [] } ∷
+    record { name = "P5 elapsed 101 refused"; gives = shownAnswer (stepOf (freshOf 0) 101 (sample 1 1 1 0)); wanted = 4 ∷ 0 ∷ [] } ∷
+    record { name = "P6 general age 199 holds open_EV back, 200 starts it"; gives = opensAtGeneral 199 ∷ opensAtGeneral 200 ∷ []; wanted = 0 ∷ 1 ∷ [] } ∷
+    record { name = "P7 opposite age 99 and 100: open_EV"; gives = opensAtOpposite 99 ∷ opensAtOpposite 100 ∷ []; wanted = 0 ∷ 1 ∷ [] } ∷
+    record { name = "P7 opposite age 99 and 100: close_EV"; gives = closesAtOpposite 99 ∷ closesAtOpposite 100 ∷ []; wanted = 0 ∷ 1 ∷ [] } ∷
+    record { name = "P7 opposite age 99 and 100: retract_EV"; gives = retractsAtOpposite 99 ∷ retractsAtOpposite 100 ∷ []; wanted = 0 ∷ 1 ∷ [] } ∷
+    record { name = "P7 opposite age 99 and 100: extend_EV"; gives = extendsAtOpposite 99 ∷ extendsAtOpposite 100 ∷ []; wanted = 0 ∷ 1 ∷ [] } ∷
+    record { name = "P8 general stop at 999 and 1,000"; gives = generalAtOthers 999 ∷ generalAtOthers 1000 ∷ []; wanted = 1 ∷ 0 ∷ [] } ∷
+    record { name = "P9 cause 2 at 6,999 and 7,000"; gives = causeAtOpen 6999 ∷ causeAtOpen 7000 ∷ []; wanted = 0 ∷ 2 ∷ [] } ∷
+    record { name = "P10 switch open at handle age 999, 1,000, 19,999, 20,000: only the middle two"; gives = causeAtHandle 999 ∷ causeAtHandle 1000 ∷ causeAtHandle 19999 ∷ causeAtHandle 20000 ∷ []; wanted = 0 ∷ 11 ∷ 11 ∷ 0 ∷ [] } ∷
+    record { name = "P11 doors CLOSING, gears RETRACTED, handle down: OPENING"; gives = doorsWord (doorsDown (place Closing Retracted)); wanted = ascii "OPENING" } ∷
+    record { name = "P12 doors OPENING, gears EXTENDED, handle down: CLOSING"; gives = doorsWord (doorsDown (place Opening Extended)); wanted = ascii "CLOSING" } ∷
+    []
+
+-- P1 to P12.
+unfoldable pub allCases : List Case
+allCases = voterCases ++ stepCases

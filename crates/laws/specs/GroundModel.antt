@@ -1,0 +1,70 @@
+-- 001, Code 1: the ground model of doors and gears, driven by the handle alone, with no sensors. Each constructor is one
+-- assignment of the printed rules, in their order. Document 01 adds one case, which stands apart.
+-- Assumes nothing.
+use mathlib.Core.Path.{_≡_}
+use Rattle.sequence.specs.declared.Doors.{Doors}
+use Rattle.sequence.specs.declared.Doors.the-variants.{Closed, Opening, Open, Closing}
+use Rattle.sequence.specs.declared.Gears.{Gears}
+use Rattle.sequence.specs.declared.Gears.the-variants.{Retracted, Extending, Extended, Retracting}
+use Rattle.sequence.specs.declared.Place.{Place}
+use Rattle.sequence.specs.Moves.{place}
+
+-- enum domain HandleStatus
+pub data HandleStatus : Type 0 where
+  UP DOWN : HandleStatus
+
+-- default init s0
+abbrev pub initial : Place
+initial = place Closed Extended
+
+-- rule r_closeDoor
+pub data CloseDoor : Doors → Doors → Type 0 where
+  open-to-closing : CloseDoor Open Closing
+  closing-to-closed : CloseDoor Closing Closed
+  opening-to-closing : CloseDoor Opening Closing
+
+-- rule r_retractionSequence
+pub data RetractionSequence : Place → Place → Type 0 where
+  -- if gears != RETRACTED then switch doors
+  retraction-closed : {gears : Gears} → ¬ (gears ≡ Retracted) → RetractionSequence (place Closed gears) (place Opening gears)
+  retraction-closing : {gears : Gears} → ¬ (gears ≡ Retracted) → RetractionSequence (place Closing gears) (place Opening gears)
+  retraction-opening : {gears : Gears} → ¬ (gears ≡ Retracted) → RetractionSequence (place Opening gears) (place Open gears)
+  -- case OPEN: switch gears
+  retraction-extended : RetractionSequence (place Open Extended) (place Open Retracting)
+  retraction-retracting : RetractionSequence (place Open Retracting) (place Open Retracted)
+  retraction-extending : RetractionSequence (place Open Extending) (place Open Retracting)
+  -- else r_closeDoor
+  retraction-else : {from to : Doors} → CloseDoor from to → RetractionSequence (place from Retracted) (place to Retracted)
+
+-- rule r_outgoingSequence
+pub data OutgoingSequence : Place → Place → Type 0 where
+  -- if gears != EXTENDED then switch doors
+  outgoing-closed : {gears : Gears} → ¬ (gears ≡ Extended) → OutgoingSequence (place Closed gears) (place Opening gears)
+  outgoing-opening : {gears : Gears} → ¬ (gears ≡ Extended) → OutgoingSequence (place Opening gears) (place Open gears)
+  -- case OPEN: switch gears
+  outgoing-retracted : OutgoingSequence (place Open Retracted) (place Open Extending)
+  outgoing-extending : OutgoingSequence (place Open Extending) (place Open Extended)
+  outgoing-retracting : OutgoingSequence (place Open Retracting) (place Open Extending)
+  -- else r_closeDoor
+  outgoing-else : {from to : Doors} → CloseDoor from to → OutgoingSequence (place from Extended) (place to Extended)
+
+-- main rule r_Main, as 001 prints it
+pub data PrintedMove : HandleStatus → Place → Place → Type 0 where
+  retracts : {p q : Place} → RetractionSequence p q → PrintedMove UP p q
+  outgoes : {p q : Place} → OutgoingSequence p q → PrintedMove DOWN p q
+
+-- The ground model with the CLOSING case added.
+pub data Move : HandleStatus → Place → Place → Type 0 where
+  printed : {handle : HandleStatus} {p q : Place} → PrintedMove handle p q → Move handle p q
+  -- ADDED by document 01: "001 prints no CLOSING case for the outgoing sequence."
+  added-closing : {gears : Gears} → ¬ (gears ≡ Extended) → Move DOWN (place Closing gears) (place Opening gears)
+
+-- One move of the ground model or none.
+pub data OneMoveOrNone : HandleStatus → Place → Place → Type 0 where
+  one-move : {handle : HandleStatus} {p q : Place} → Move handle p q → OneMoveOrNone handle p q
+  no-move : {handle : HandleStatus} {p : Place} → OneMoveOrNone handle p p
+
+-- Where the ground model comes to from its initial state, whatever the handle does.
+pub data OfTheGroundModel : Place → Type 0 where
+  initially : OfTheGroundModel initial
+  and-then : {p q : Place} → OfTheGroundModel p → (handle : HandleStatus) → Move handle p q → OfTheGroundModel q
