@@ -1,1 +1,3 @@
+pub mod Decimals
 pub mod Loops
+pub mod Pairs

@@ -1,7 +1,6 @@
--- Words written as words: the bytes of a text.
+-- Words written as words: the bytes of a text, and the texts of several fields as one.
 -- Assumes nothing.
-use mathlib.Core.List
-use mathlib.Core.List.{List}
+use mathlib.Core.List.{List, [], _∷_, _++_}
 use Prim.Native.Nat.{ℕ}
 use Prim.Native.String
 use Prim.Native.String.{String}
@@ -11,3 +10,13 @@ use Prim.Native.Char.{code}
 abbrev pub ascii : String → List ℕ
 ascii String.[] = List.[]
 ascii (String._∷_ c s) = List._∷_ (code c) (ascii s)
+
+-- Document 01, "The trace and its program": CSV by RFC 4180, so a comma stands between two fields.
+abbrev pub comma : ℕ
+comma = 44
+
+-- The fields with a comma between each two: the text that they are the fields of.
+unfoldable pub joinedByCommas : List (List ℕ) → List ℕ
+joinedByCommas [] = []
+joinedByCommas (f ∷ []) = f
+joinedByCommas (f ∷ g ∷ fs) = f ++ comma ∷ joinedByCommas (g ∷ fs)

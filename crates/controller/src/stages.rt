@@ -181,6 +181,10 @@ impl State {
         requires { ⌜ length (now sample) ≡ 54 ⌝ }
         ensures { λ r. ⌜ r ≡ accepted self stamp (now (sample .entry)) ⌝ }
     {
-        self.ages(stamp).vote(sample).monitors().sequence().orders()
+        let aged = self.ages(stamp);
+        let voted = aged.vote(sample);
+        let watched = voted.monitors();
+        let moved = watched.sequence();
+        moved.orders()
     }
 }

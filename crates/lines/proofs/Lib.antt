@@ -1,0 +1,5 @@
+pub mod Cases
+pub mod Law
+pub mod Once
+pub mod Parts
+pub mod Steps

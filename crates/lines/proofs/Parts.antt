@@ -1,0 +1,151 @@
+-- However the input is cut into parts, cutting them one after the other gives the rows of the plain split of the whole, up
+-- to the first that is longer than the line. By induction over the run, each step by the law of its answer.
+-- Assumes nothing.
+use Prim.Native.Nat.{ℕ, zero, suc, _-_, _<_, _≤_}
+use mathlib.Core.Bool.{Bool, false, cond}
+use mathlib.Core.List.{List, [], _∷_, _++_}
+use mathlib.Core.Option.{Option, none, some}
+use mathlib.Core.Path.{_≡_, refl, sym, ap, subst}
+use native.Mathlib.Omega.{arith}
+use borrow.Author.Tests.{lt-ltb, le-ltb}
+use lib.Dec.{ltb}
+use lib.ListN.{length, take, drop, length-take}
+use Rattle.lines.specs.Rows.{rowsOf}
+use Rattle.lines.specs.Cuts.{rowsFrom, cutOf, lastOf}
+use Rattle.lines.specs.declared.Taken.{Taken}
+use Rattle.lines.specs.declared.Taken.the-variants.{Row, More, Over}
+use Rattle.lines.specs.declared.Final.{Final}
+use Rattle.lines.specs.declared.Final.the-variants.{Nothing, Last, Wider}
+use Rattle.lines.proofs.Law.{StartsOver, LastTold, cut-law, last-law, start-law}
+
+-- The rows up to the first that is over `most` bytes, which stands as `none`.
+pub upTo : ℕ → List (List ℕ) → List (Option (List ℕ))
+upTo most [] = []
+upTo most (r ∷ rows) = cond (ltb most (length r)) (none ∷ []) (some r ∷ upTo most rows)
+
+-- All parts as one.
+abbrev pub joined : List (List ℕ) → List ℕ
+joined [] = []
+joined (part ∷ parts) = part ++ joined parts
+
+-- The rows that the end of the input gives.
+abbrev pub ending : Final → List ℕ → List (Option (List ℕ))
+ending Nothing line = []
+ending (Last len) line = some (take len line) ∷ []
+ending Wider line = none ∷ []
+
+-- A run: with the line, what of it is the row so far, a held CR or none, a part from a place on, and the parts behind it,
+-- `cut` and `last` give these rows.
+pub data Run : List ℕ → ℕ → Bool → List ℕ → ℕ → List (List ℕ) → List (Option (List ℕ)) → Type 0 where
+  row : {line : List ℕ} {len : ℕ} {c : Bool} {part : List ℕ} {from : ℕ} {parts : List (List ℕ)} {rows : List (Option (List ℕ))}
+      {used n : ℕ} {line′ : List ℕ}
+      → (Row used n, line′) ≡ cutOf part from line len c
+      → Run line′ 0 false part used parts rows
+      → Run line len c part from parts (some (take n line′) ∷ rows)
+  more : {line : List ℕ} {len : ℕ} {c : Bool} {part : List ℕ} {from : ℕ} {next : List ℕ} {parts : List (List ℕ)}
+      {rows : List (Option (List ℕ))} {n : ℕ} {c′ : Bool} {line′ : List ℕ}
+      → (More n c′, line′) ≡ cutOf part from line len c
+      → Run line′ n c′ next 0 parts rows
+      → Run line len c part from (next ∷ parts) rows
+  over : {line : List ℕ} {len : ℕ} {c : Bool} {part : List ℕ} {from : ℕ} {parts : List (List ℕ)} {line′ : List ℕ}
+      → (Over, line′) ≡ cutOf part from line len c
+      → Run line len c part from parts (none ∷ [])
+  ended : {line : List ℕ} {len : ℕ} {c : Bool} {part : List ℕ} {from : ℕ} {n : ℕ} {c′ : Bool} {line′ : List ℕ} {r : Final}
+      {line″ : List ℕ}
+      → (More n c′, line′) ≡ cutOf part from line len c
+      → (r, line″) ≡ lastOf line′ n c′
+      → Run line len c part from [] (ending r line″)
+
+-- The first row counts: it is read, or over.
+read-first : (most : ℕ) (first : List ℕ) (others : List (List ℕ)) → length first ≤ most
+    → upTo most (first ∷ others) ≡ some first ∷ upTo most others
+unfolding upTo
+read-first most first others h = rw (le-ltb most (length first) h)
+
+over-first : (most : ℕ) (rows : List (List ℕ)) → StartsOver most rows → upTo most rows ≡ none ∷ []
+unfolding upTo
+over-first most rows s = rw (s .are, lt-ltb most (length (s .first)) (s .over))
+
+at-last : (rows : List (List ℕ)) (r : Final) (line : List ℕ) → LastTold rows r line → ending r line ≡ upTo (length line) rows
+unfolding upTo
+at-last rows Nothing line t = rw t
+at-last rows (Last n) line t =
+    let h : length (take n line) ≤ length line = simp length-take (omega arith) in
+    rw (t .1) (sym (read-first (length line) (take n line) [] h))
+at-last rows Wider line t = sym (over-first (length line) rows t)
+
+pub run-law : {line : List ℕ} {len : ℕ} {c : Bool} {part : List ℕ} {from : ℕ} {parts : List (List ℕ)}
+    {rows : List (Option (List ℕ))}
+    → Run line len c part from parts rows
+    → rows ≡ upTo (length line) (rowsFrom (take len line) c (drop from part ++ joined parts))
+run-law {line} {len} {c} {part} {from} {parts} (row {rows = rows} {used = used} {n = n} {line′ = line′} e next) =
+    let l = cut-law part from line len c (Row used n) line′ e in
+    let h : length (take n line′) ≤ length line = simp length-take (omega (arith, l .0)) in
+    let left = drop used part ++ joined parts in
+    rw (l .1 .are (joined parts), read-first (length line) (take n line′) (rowsOf left) h)
+    (ap (λ (others : List (Option (List ℕ))). some (take n line′) ∷ others) (rw (l .0, start-law left) at (run-law next)))
+run-law {line} {len} {c} {part} {from} (more {next = p} {parts = parts} {n = n} {c′ = c′} {line′ = line′} e next) =
+    let l = cut-law part from line len c (More n c′) line′ e in
+    rw (l .1 .are (p ++ joined parts)) (rw (l .0) at (run-law next))
+run-law {line} {len} {c} {part} {from} {parts} (over {line′ = line′} e) =
+    let l = cut-law part from line len c Over line′ e in
+    sym (over-first (length line) (rowsFrom (take len line) c (drop from part ++ joined parts)) (rw (l .0) at (l .1 (joined parts))))
+run-law {line} {len} {c} {part} {from} (ended {n = n} {c′ = c′} {line′ = line′} {r = r} {line″ = line″} e f) =
+    let l = cut-law part from line len c (More n c′) line′ e in
+    let m = last-law line′ n c′ r line″ f in
+    rw (l .1 .are [], ← l .0, ← m .0) (at-last (rowsFrom (take n line′) c′ []) r line″ (m .1))
+
+-- From the start of the input on: the rows of the whole.
+pub parts-law : {line part : List ℕ} {parts : List (List ℕ)} {rows : List (Option (List ℕ))}
+    → Run line 0 false part 0 parts rows
+    → rows ≡ upTo (length line) (rowsOf (joined (part ∷ parts)))
+parts-law {part = part} {parts = parts} run = rw (start-law (part ++ joined parts)) at (run-law run)
+
+-- ---- Each input has its run, however it is cut
+
+abbrev Made : List ℕ → ℕ → Bool → List ℕ → ℕ → List (List ℕ) → Type 0
+Made line len c part from parts = (rows : List (Option (List ℕ))) × Run line len c part from parts rows
+
+-- How it goes on where a part is used up.
+abbrev OnMore : List (List ℕ) → Type 0
+OnMore parts =
+    (part : List ℕ) (from : ℕ) (line : List ℕ) (len : ℕ) (c : Bool) (n : ℕ) (c′ : Bool) (line′ : List ℕ)
+    → (More n c′, line′) ≡ cutOf part from line len c
+    → Made line len c part from parts
+
+by-answer : (parts : List (List ℕ)) → OnMore parts
+    → (part : List ℕ) (from : ℕ) (line : List ℕ) (len : ℕ) (c : Bool) (r : Taken) (line′ : List ℕ)
+    → (r, line′) ≡ cutOf part from line len c
+    → ((used : ℕ) → from < used → used ≤ length part → Made line′ 0 false part used parts)
+    → Made line len c part from parts
+by-answer parts m part from line len c (Row used n) line′ e go =
+    let t = cut-law part from line len c (Row used n) line′ e .1 in
+    let next = go used (t .forth) (t .inside) in (some (take n line′) ∷ next .0, row e (next .1))
+by-answer parts m part from line len c (More n c′) line′ e go = m part from line len c n c′ line′ e
+by-answer parts m part from line len c Over line′ e go = (none ∷ [], over e)
+
+in-part : (parts : List (List ℕ)) → OnMore parts
+    → (k : ℕ) (part : List ℕ) (from : ℕ) (line : List ℕ) (len : ℕ) (c : Bool)
+    → length part - from < k
+    → Made line len c part from parts
+in-part parts m zero part from line len c h = absurd (omega arith)
+in-part parts m (suc k) part from line len c h =
+    let a = cutOf part from line len c in
+    by-answer parts m part from line len c (a .0) (a .1) refl
+    (λ used f i. in-part parts m k part used (a .1) 0 false (omega arith))
+
+made : (parts : List (List ℕ)) (part : List ℕ) (from : ℕ) (line : List ℕ) (len : ℕ) (c : Bool) → Made line len c part from parts
+made [] part from line len c =
+    in-part []
+    (λ q g l m d n d′ l′ e. let f = lastOf l′ n d′ in (ending (f .0) (f .1), ended e refl))
+    (suc (length part - from)) part from line len c (omega arith)
+made (p ∷ parts) part from line len c =
+    in-part (p ∷ parts)
+    (λ q g l m d n d′ l′ e. let next = made parts p 0 l′ n d′ in (next .0, more e (next .1)))
+    (suc (length part - from)) part from line len c (omega arith)
+
+-- Whatever the line held: the parts, one after the other, give the rows of the plain split of the whole, up to the first
+-- that is longer than the line, and no other rows.
+pub parts-rows : (line part : List ℕ) (parts : List (List ℕ))
+    → Run line 0 false part 0 parts (upTo (length line) (rowsOf (joined (part ∷ parts))))
+parts-rows line part parts = let m = made parts part 0 line 0 false in subst (Run line 0 false part 0 parts) (parts-law (m .1)) (m .1)

@@ -1,0 +1,5 @@
+pub mod Once
+pub mod Placing
+pub mod Sizes
+pub mod Texts
+pub mod Worked

@@ -1,0 +1,162 @@
+-- Demand 3 over the controller's own step and real samples. An accepted sample is a step of the core on what the votes say, and a
+-- voted handle that stays is an aim that stays: of the votes nothing else is used.
+-- Assumes nothing.
+use mathlib.Core.Bool.{Bool, true, false, not, Bool·beq}
+use mathlib.Core.List.{List, [], _∷_}
+use mathlib.Core.Path.{_≡_, refl, _∙_, ap}
+use Prim.Native.Nat.{ℕ, _+_, _≤_}
+use lib.Dec.{T, eqb, ltb, eqb→eq, nltb→le, lit<}
+use lib.ListN.{length}
+use mir.Facts.{and-yes}
+use Rattle.voter.specs.declared.Voter.{Voter}
+use Rattle.sequence.specs.Moves.{aimOf}
+use Rattle.controller.specs.declared.Core.{Core}
+use Rattle.controller.specs.declared.State.{State}
+use Rattle.controller.specs.Votes.{handle, sensor, allVoted, sightOf, aimed}
+use Rattle.controller.specs.Stages.{elapsedOf, agesStage, turned, voteStage, monitorsStage, sequenceStage, ordersStage, accepted}
+use Rattle.controller.specs.Steps.{limit, someOverOne, refusalOf, stepOf}
+use Rattle.controller.specs.SessionS.{Row}
+use Rattle.laws.specs.Reached.{Reached, after}
+use Rattle.laws.proofs.Lifted.{core-of-accepted}
+use Rattle.laws.proofs.Safety.{moving-gears-have-doors-open}
+use Rattle.settling.specs.Bounds.{boundFor, settled, Settled}
+use Rattle.settling.specs.Runs.{next, heldOne, held, Held, elapsedIn, elapsedSince}
+use Rattle.settling.specs.CoreRuns.{Told, coreNext, coreAfter, Within, elapsedTold}
+use Rattle.settling.proofs.Quiet.{none-holds}
+use Rattle.settling.proofs.Stays.{is-true}
+use Rattle.settling.proofs.CoreSettles.{core-unsettled-is-early, core-demand-3}
+
+-- ---- What samples tell the core
+
+toldBy : State → Row → Told
+toldBy s r =
+    let votes : List Voter = allVoted (r .1) (s .voters) in
+    record { elapsed = elapsedOf (s .stamp) (r .0); turned = turned (s .voters) votes; see = sightOf votes }
+
+allToldBy : State → List Row → List Told
+allToldBy s [] = []
+allToldBy s (r ∷ rs) = toldBy s r ∷ allToldBy (next s r) rs
+
+-- ---- One sample
+
+same : (a b : Bool) → T (Bool·beq a b) → a ≡ b
+same true true h = refl
+same true false h = absurd h
+same false true h = absurd h
+same false false h = refl
+
+module _ (down : Bool) (s : State) (r : Row) (h : T (heldOne down s r)) where
+  taken-and-held : T (eqb (refusalOf s (r .0) (r .1)) 0) × T (Bool·beq (sensor handle (next s r .voters)) down)
+  unfolding heldOne
+  taken-and-held = and-yes (eqb (refusalOf s (r .0) (r .1)) 0) (Bool·beq (sensor handle (next s r .voters)) down) h
+
+  is-accepted : next s r ≡ accepted s (r .0) (r .1)
+  unfolding stepOf
+  is-accepted = rw (is-true (eqb (refusalOf s (r .0) (r .1)) 0) (taken-and-held .0))
+
+  within-limit : elapsedOf (s .stamp) (r .0) ≤ limit
+  unfolding refusalOf
+  within-limit =
+      let elapsed : ℕ = elapsedOf (s .stamp) (r .0) in
+      nltb→le limit elapsed
+      (none-holds 0 (not (eqb (length (r .1)) 54) ∷ someOverOne (r .1) ∷ eqb elapsed 0 ∷ ltb limit elapsed ∷ [])
+      (eqb→eq (refusalOf s (r .0) (r .1)) 0 (taken-and-held .0)) .1 .1 .1 .0)
+
+  voters-next : next s r .voters ≡ allVoted (r .1) (s .voters)
+  unfolding agesStage voteStage monitorsStage sequenceStage ordersStage accepted
+  voters-next = ap (λ (t : State). t .voters) is-accepted
+
+  handle-held : sensor handle (allVoted (r .1) (s .voters)) ≡ down
+  handle-held = rw voters-next at (same (sensor handle (next s r .voters)) down (taken-and-held .1))
+
+  core-next : next s r .core ≡ coreNext (aimOf down) (s .core) (toldBy s r)
+  unfolding coreNext toldBy aimed
+  core-next =
+      ap (λ (t : State). t .core) is-accepted ∙
+      core-of-accepted s (r .0) (r .1) ∙
+      ap (λ (b : Bool). coreNext (aimOf b) (s .core) (toldBy s r)) handle-held
+
+-- ---- A run
+
+held-parts :
+    (down : Bool) (s : State) (r : Row) (rs : List Row) → Held down s (r ∷ rs) → T (heldOne down s r) × Held down (next s r) rs
+unfolding held
+held-parts down s r rs h = and-yes (heldOne down s r) (held down (next s r) rs) h
+
+core-after :
+    (down : Bool) (s : State) (rs : List Row) →
+    Held down s rs →
+    after s rs .core ≡ coreAfter (aimOf down) (s .core) (allToldBy s rs)
+unfolding after coreAfter allToldBy
+core-after down s [] h = refl
+core-after down s (r ∷ rs) h =
+    let parts = held-parts down s r rs h in
+    core-after down (next s r) rs (parts .1) ∙
+    ap (λ (c : Core). coreAfter (aimOf down) c (allToldBy (next s r) rs)) (core-next down s r (parts .0))
+
+all-within : (down : Bool) (s : State) (rs : List Row) → Held down s rs → Within limit (allToldBy s rs)
+unfolding Within allToldBy toldBy
+all-within down s [] h = tt
+all-within down s (r ∷ rs) h =
+    let parts = held-parts down s r rs h in
+    (within-limit down s r (parts .0), all-within down (next s r) rs (parts .1))
+
+elapsed-told : (s : State) (rs : List Row) → elapsedIn s rs ≡ elapsedTold (allToldBy s rs)
+unfolding elapsedIn elapsedTold allToldBy toldBy
+elapsed-told s [] = refl
+elapsed-told s (r ∷ rs) = ap (λ (n : ℕ). elapsedOf (s .stamp) (r .0) + n) (elapsed-told (next s r) rs)
+
+-- ---- For the limit in force, whatever it is
+
+module _ (s : State) (reached : Reached s) (down : Bool) (first : Row) (rest : List Row) (stays : Held down s (first ∷ rest)) where
+  told : List Told
+  told = allToldBy (next s first) rest
+
+  told-within : Within limit told
+  unfolding told
+  told-within = all-within down (next s first) rest (held-parts down s first rest stays .1)
+
+  told-after : after s (first ∷ rest) .core ≡ coreAfter (aimOf down) (s .core) (toldBy s first ∷ told)
+  unfolding told allToldBy
+  told-after = core-after down s (first ∷ rest) stays
+
+  told-elapsed : elapsedSince s (first ∷ rest) ≡ elapsedTold told
+  unfolding told elapsedSince
+  told-elapsed = elapsed-told (next s first) rest
+
+  settles-within : boundFor limit ≤ elapsedSince s (first ∷ rest) → Settled (aimOf down) (after s (first ∷ rest) .core)
+  settles-within late =
+      rw told-after
+      (core-demand-3 limit (lit< tt) (aimOf down) (s .core) (moving-gears-have-doors-open s reached) (toldBy s first) told told-within
+      (rw told-elapsed at late))
+
+  early-within : T (not (settled (aimOf down) (after s (first ∷ rest) .core))) → elapsedSince s (first ∷ rest) + limit ≤ boundFor limit
+  early-within u =
+      rw told-elapsed
+      (core-unsettled-is-early limit (aimOf down) (s .core) (moving-gears-have-doors-open s reached) (toldBy s first) told told-within
+      (rw told-after at u))
+
+-- ---- Demand 3
+
+-- "From any reached state, with the voted handle held still, within 24,796 ms either red is latched or the doors are closed and the
+-- gears stand where the handle asks, whatever the sensors say."
+pub demand-3 :
+    (s : State) →
+    Reached s →
+    (down : Bool) (first : Row) (rest : List Row) →
+    Held down s (first ∷ rest) →
+    24796 ≤ elapsedSince s (first ∷ rest) →
+    Settled (aimOf down) (after s (first ∷ rest) .core)
+unfolding boundFor
+demand-3 s reached down first rest stays late = settles-within s reached down first rest stays late
+
+-- What is stronger: a sample at which it is not settled comes with elapsed and limit together at most that.
+pub unsettled-is-early :
+    (s : State) →
+    Reached s →
+    (down : Bool) (first : Row) (rest : List Row) →
+    Held down s (first ∷ rest) →
+    T (not (settled (aimOf down) (after s (first ∷ rest) .core))) →
+    elapsedSince s (first ∷ rest) + limit ≤ 24796
+unfolding boundFor
+unsettled-is-early s reached down first rest stays u = early-within s reached down first rest stays u

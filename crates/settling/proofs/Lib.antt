@@ -1,0 +1,9 @@
+pub mod Waits
+pub mod Phases
+pub mod Five
+pub mod Left
+pub mod Quiet
+pub mod Stays
+pub mod CoreSettles
+pub mod Demand3
+pub mod Worst

@@ -1,0 +1,44 @@
+-- The same over the core alone: it is told what has elapsed, whether the voted handle changed and what is seen, which may be
+-- anything. No limit is written here, so that the bound is shown for every limit at once.
+-- Assumes nothing.
+use mathlib.Core.Bool.{Bool}
+use mathlib.Core.List.{List, [], _∷_}
+use mathlib.Core.Path.{_≡_}
+use Prim.Native.Nat.{ℕ, _+_, _≤_}
+use lib.Dec.{T}
+use Rattle.sequence.specs.declared.Doors.the-variants.{Open}
+use Rattle.sequence.specs.declared.Aim.{Aim}
+use Rattle.sequence.specs.declared.Place.{Place}
+use Rattle.monitors.specs.declared.Sight.{Sight}
+use Rattle.controller.specs.declared.Core.{Core}
+use Rattle.controller.specs.Stages.{coreStep}
+use Rattle.laws.specs.Sound.{areMoving}
+
+-- What an accepted step tells the core, beside the aim.
+pub record Told : Type 0 where
+  pub elapsed : ℕ
+  pub turned : Bool
+  pub see : Sight
+
+-- The core after one such step.
+unfoldable pub coreNext : Aim → Core → Told → Core
+coreNext aim c t = coreStep (t .elapsed) (t .turned) aim (t .see) c
+
+-- The core after a run of them with one aim.
+unfoldable pub coreAfter : Aim → Core → List Told → Core
+coreAfter aim c [] = c
+coreAfter aim c (t ∷ ts) = coreAfter aim (coreNext aim c t) ts
+
+-- Each elapsed time is at most the limit.
+unfoldable pub Within : ℕ → List Told → Type 0
+Within limit [] = Unit {0}
+Within limit (t ∷ ts) = (t .elapsed ≤ limit) × Within limit ts
+
+-- The elapsed times, added up.
+unfoldable pub elapsedTold : List Told → ℕ
+elapsedTold [] = 0
+elapsedTold (t ∷ ts) = t .elapsed + elapsedTold ts
+
+-- Moving gears have doors OPEN: all that is asked of the core before the run, and so it is in every reached state.
+abbrev pub MovingHaveOpen : Place → Type 0
+MovingHaveOpen p = T (areMoving (p .gears)) → p .doors ≡ Open

@@ -1,0 +1,4 @@
+pub mod Bounds
+pub mod Runs
+pub mod CoreRuns
+pub mod WorstRuns

@@ -1,0 +1,12 @@
+pub mod Cases
+pub mod Commas
+pub mod Decimals
+pub mod Digits
+pub mod Examples
+pub mod Fields
+pub mod Forms
+pub mod Laws
+pub mod Once
+pub mod Texts
+pub mod Triples
+pub mod TripleTexts

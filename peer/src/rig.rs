@@ -1,0 +1,293 @@
+//! The controller: "One accepted step, in this order" of document 01.
+//!
+//! Sensors are bits of a `u32` in the order of the sample, one word per channel; orders are bits
+//! of a `u8` in the order of the output row. An age is not stored: `since` holds the time of the
+//! last change, on a clock that starts at 60,000, so a fresh age is 60,000 and the cap is a `min`.
+
+use crate::rules::{Rules, Slip};
+
+// "The sample": bit of each sensor; three bits where there is front, left, right.
+pub const HANDLE: u32 = 1;
+pub const SWITCH: u32 = 1 << 1;
+pub const GEAR_EXTENDED: u32 = 0b111 << 2;
+pub const GEAR_RETRACTED: u32 = 0b111 << 5;
+pub const ON_GROUND: u32 = 0b111 << 8;
+pub const DOOR_CLOSED: u32 = 0b111 << 11;
+pub const DOOR_OPEN: u32 = 0b111 << 14;
+pub const PRESSURIZED: u32 = 1 << 17;
+pub const SENSORS: u32 = (1 << 18) - 1;
+
+// The orders, as in the output row; `HANDLE_CLOCK` is the sixth thing that has an age.
+pub const GENERAL: usize = 0;
+pub const CLOSE: usize = 1;
+pub const OPEN: usize = 2;
+pub const RETRACT: usize = 3;
+pub const EXTEND: usize = 4;
+pub const HANDLE_CLOCK: usize = 5;
+const FOUR: u8 = 0b11110;
+const OPPOSITE: [usize; 5] = [GENERAL, OPEN, CLOSE, EXTEND, RETRACT];
+const SWAPPED: [usize; 5] = [GENERAL, EXTEND, RETRACT, OPEN, CLOSE]; // a fault
+
+#[derive(Clone, Copy, PartialEq, Eq, Debug)]
+#[rustfmt::skip]
+pub enum Doors { Closed, Opening, Open, Closing }
+
+#[derive(Clone, Copy, PartialEq, Eq, Debug)]
+#[rustfmt::skip]
+pub enum Gears { Retracted, Extending, Extended, Retracting }
+
+#[derive(Clone, Debug)]
+pub struct Rig {
+    pub stamp: u32,
+    now: u64,
+    since: [u64; 6],
+    pub on: u8,
+    /// Per channel, the sensors for which it is not struck.
+    ok: [u32; 3],
+    invalid: u32,
+    pub held: u32,
+    pub doors: Doors,
+    pub gears: Gears,
+    pub cause: u8,
+}
+
+impl Rig {
+    /// A fresh start.
+    pub fn fresh(r: &Rules, stamp: u32) -> Rig {
+        Rig {
+            stamp,
+            now: if r.is(Slip::FreshAge0) { 0 } else { 60_000 },
+            since: [0; 6],
+            on: 0,
+            ok: [SENSORS; 3],
+            invalid: 0,
+            held: if r.is(Slip::FreshHandleUp) { 0 } else { HANDLE },
+            doors: Doors::Closed,
+            gears: Gears::Extended,
+            cause: 0,
+        }
+    }
+
+    /// The age of an order or of the handle at time `at`.
+    #[inline]
+    fn age_at(&self, r: &Rules, at: u64, clock: usize) -> u64 {
+        let age = at.saturating_sub(self.since[clock]);
+        if r.is(Slip::AgesGoRound) && at > 60_000 {
+            age % 60_000
+        } else {
+            age.min(r.age_cap)
+        }
+    }
+
+    pub fn age(&self, clock: usize) -> u64 {
+        (self.now - self.since[clock]).min(60_000)
+    }
+
+    pub fn is_on(&self, order: usize) -> bool {
+        self.on >> order & 1 == 1
+    }
+
+    /// One sample: 0, or refusal 3 or 4, which leaves everything as it was.
+    #[inline]
+    pub fn step(&mut self, r: &Rules, stamp: u32, sample: [u32; 3]) -> u8 {
+        let elapsed = u64::from(stamp.wrapping_sub(self.stamp));
+        let back = r.is(Slip::StampNotRound) && stamp < self.stamp;
+        if elapsed == 0 || elapsed > r.elapsed_max || back {
+            match r.slip {
+                Slip::StampMoved => self.stamp = stamp,
+                Slip::StampMovedOn3 if elapsed == 0 => self.stamp = stamp,
+                Slip::AgesGrowRefused => self.now += elapsed,
+                Slip::VoteRefused => self.vote(r, sample),
+                _ => {}
+            }
+            return if (elapsed == 0) != r.is(Slip::CodesSwapped) { 3 } else { 4 };
+        }
+        self.stamp = stamp;
+
+        // Ages.
+        self.now += elapsed;
+        let old = self.now - elapsed; // used by faults only
+
+        // Voting, then the monitors over the orders as they stood before.
+        let first = r.is(Slip::MonitorsFirst).then(|| self.monitors(r, self.now));
+        let handle = self.held & HANDLE;
+        self.vote(r, sample);
+        let moved = self.held & HANDLE != handle && !r.is(Slip::HandleAgeKept);
+        if moved && !r.is(Slip::HandleAgeLate) {
+            self.since[HANDLE_CLOCK] = self.now;
+        }
+        let red_before = self.cause != 0;
+        if self.cause == 0 || r.is(Slip::NotLatched) {
+            let at = if r.is(Slip::MonitorsOldAge) { old } else { self.now };
+            self.cause = first.unwrap_or_else(|| self.monitors(r, at));
+        }
+        if moved {
+            self.since[HANDLE_CLOCK] = self.now;
+        }
+
+        // Sequence: with an anomaly, old or new, nothing moves.
+        let red = if r.is(Slip::LatchingMove) { red_before } else { self.cause != 0 };
+        if !red || r.is(Slip::RedMoves) {
+            self.sequence(r);
+            if r.is(Slip::TwoMoves) {
+                self.sequence(r);
+            }
+        }
+
+        self.orders(r, if r.is(Slip::WaitsOldAge) { old } else { self.now });
+        0
+    }
+
+    /// Voting, all 18 sensors at once.
+    #[inline]
+    pub fn vote(&mut self, r: &Rules, [a, b, c]: [u32; 3]) {
+        let [ok_a, ok_b, ok_c] = self.ok;
+        let three = ok_a & ok_b & ok_c;
+        let majority = if r.is(Slip::FirstChannel) { a } else { a & b | a & c | b & c };
+        // With two valid channels `x` and `y` are those two.
+        let x = ok_a & a | !ok_a & b;
+        let y = ok_c & c | !ok_c & b;
+        let two = SENSORS & !three & !self.invalid;
+        let differ = if r.is(Slip::TwoDifferAgree) { 0 } else { two & (x ^ y) };
+        let kept = self.invalid | differ;
+        let mut value = three & majority | two & x & !differ | kept & self.held;
+        if r.is(Slip::InvalidTakesNew) {
+            value ^= differ;
+        }
+        if !r.is(Slip::NeverStruck) {
+            let odd = three & (a ^ b | b ^ c);
+            self.ok = [ok_a & !(odd & !(b ^ c)), ok_b & !(odd & !(a ^ c)), ok_c & !(odd & !(a ^ b))];
+        }
+        self.invalid = kept;
+        self.held = value;
+        match r.slip {
+            Slip::LetBack => {
+                let valid = !self.invalid;
+                self.ok[0] |= valid & !(a ^ value);
+                self.ok[1] |= valid & !(b ^ value);
+                self.ok[2] |= valid & !(c ^ value);
+            }
+            Slip::InvalidBack => self.invalid &= a ^ b | b ^ c,
+            _ => {}
+        }
+    }
+
+    /// Monitors: the lowest cause that holds, or 0.
+    fn monitors(&self, r: &Rules, at: u64) -> u8 {
+        let late = |order, cause: usize| self.is_on(order) && self.age_at(r, at, order) >= r.cause[cause];
+        let some = |sensors| self.held & sensors != 0;
+        let not_all = |sensors| self.held & sensors != sensors;
+        let off = self.age_at(r, at, GENERAL);
+        let handle = self.age_at(r, at, HANDLE_CLOCK);
+        let end = if r.is(Slip::Cause11NoEnd) { r.cause[12] } else { r.cause_11_end };
+        let holds = [
+            late(OPEN, 1) && some(DOOR_CLOSED),
+            late(OPEN, 2) && not_all(DOOR_OPEN),
+            late(CLOSE, 3) && some(DOOR_OPEN),
+            late(CLOSE, 4) && not_all(DOOR_CLOSED),
+            late(RETRACT, 5) && some(GEAR_EXTENDED),
+            late(RETRACT, 6) && not_all(GEAR_RETRACTED),
+            late(EXTEND, 7) && some(GEAR_RETRACTED),
+            late(EXTEND, 8) && not_all(GEAR_EXTENDED),
+            late(GENERAL, 9) && not_all(PRESSURIZED),
+            !self.is_on(GENERAL) && off >= r.cause[10] && some(PRESSURIZED),
+            handle >= r.cause[11] && handle < end && not_all(SWITCH),
+            handle >= r.cause[12] && some(SWITCH),
+            self.invalid != 0 && !r.is(Slip::TwoDifferNoRed),
+        ];
+        let found = match r.slip {
+            Slip::HighestCause => holds.iter().rposition(|&h| h),
+            _ => holds.iter().position(|&h| h),
+        };
+        found.map_or(0, |n| n as u8 + 1)
+    }
+
+    /// Sequence: at most one move.
+    fn sequence(&mut self, r: &Rules) {
+        use {Doors::*, Gears::*};
+        let all = |sensors, any| match self.held & sensors {
+            seen if r.is(any) => seen != 0,
+            seen => seen == sensors,
+        };
+        let up = (self.held & HANDLE == 0) != r.is(Slip::AimSwapped);
+        let (aim, towards, there) = match up {
+            true => (Retracted, Retracting, GEAR_RETRACTED),
+            false => (Extended, Extending, GEAR_EXTENDED),
+        };
+        match (self.gears == aim, self.doors) {
+            (false, Closing) if r.is(Slip::ClosingKept) => {}
+            (false, Closed | Closing) => self.doors = Opening,
+            (false, Opening) if all(DOOR_OPEN, Slip::AnyDoorOpen) => self.doors = Open,
+            (false, Open) if self.gears == towards && all(there, Slip::AnyGearThere) => self.gears = aim,
+            (false, Open) if r.is(Slip::WrongWayKept) && matches!(self.gears, Extending | Retracting) => {}
+            (false, Open) => self.gears = towards,
+            (true, Opening) if r.is(Slip::OpeningKept) => {}
+            (true, Open | Opening) => self.doors = Closing,
+            (true, Closing) if all(DOOR_CLOSED, Slip::AnyDoorClosed) => self.doors = Closed,
+            _ => {}
+        }
+    }
+
+    /// Orders: `self.on` as it stood before, the new doors, gears and anomaly, ages grown.
+    fn orders(&mut self, r: &Rules, at: u64) {
+        let before = self.on;
+        let red = self.cause != 0;
+        let off = |order: usize| before >> order & 1 == 0;
+        let age = |order| self.age_at(r, at, order);
+        let wanted = match (self.doors, self.gears) {
+            _ if red && !r.is(Slip::OrdersKeptRed) => 0,
+            (Doors::Opening, _) => 1 << OPEN,
+            (Doors::Closing, _) => 1 << CLOSE,
+            (_, Gears::Retracting) => 1 << RETRACT,
+            (_, Gears::Extending) => 1 << EXTEND,
+            _ => 0,
+        };
+        let mut after = before & wanted;
+        let ready = (!off(GENERAL) || r.is(Slip::GeneralOnUnchecked)) && age(GENERAL) >= r.general_wait;
+        if wanted & !before != 0 && ready {
+            let opposite = if r.is(Slip::OppositesSwapped) { SWAPPED } else { OPPOSITE };
+            let other = opposite[wanted.trailing_zeros() as usize];
+            let free = match r.slip {
+                Slip::OppositeUnchecked => true,
+                Slip::OppositeAgeOnly => age(other) >= r.opposite_wait,
+                Slip::OppositeAtStop => !off(other) || age(other) >= r.opposite_wait,
+                _ => off(other) && age(other) >= r.opposite_wait,
+            };
+            if free {
+                after |= wanted;
+            }
+        }
+        // general_EV
+        let needed = self.doors != Doors::Closed && (!red || r.is(Slip::GeneralKeptRed));
+        let (four, last) = match r.slip {
+            Slip::GeneralOnlyClosed => (0b00110, OPEN),
+            _ => (FOUR, EXTEND),
+        };
+        let quiet = before & four == 0 && (CLOSE..=last).all(|order| age(order) >= r.general_stop);
+        if needed || !(off(GENERAL) || quiet || r.is(Slip::GeneralWaitsNone)) {
+            after |= 1 << GENERAL;
+        }
+        // Each order that changes gets age 0.
+        for order in GENERAL..=EXTEND {
+            let (was, is) = (before >> order & 1, after >> order & 1);
+            let kept = is == 1 && r.is(Slip::StartKeepsAge) || is == 0 && r.is(Slip::StopKeepsAge);
+            if was != is && !kept {
+                self.since[order] = self.now;
+            }
+        }
+        self.on = after;
+    }
+
+    /// Lights: green, orange, red. Everything they can depend on is in `self`.
+    #[inline]
+    pub fn lights(&self, r: &Rules) -> [bool; 3] {
+        use Gears::*;
+        let green = match self.gears {
+            Retracting => r.is(Slip::GreenKept),
+            gears => gears == Extended,
+        };
+        let orange = matches!(self.gears, Extending | Retracting)
+            || r.is(Slip::OrangeDoors) && matches!(self.doors, Doors::Opening | Doors::Closing);
+        [green, orange, self.cause != 0 && !r.is(Slip::NoRed)]
+    }
+}

@@ -1,0 +1,210 @@
+//! The numbers of document 01 and, for tests, the faults that can be planted.
+//! `Rules::default()` is document 01; every fault moves one number or makes one `Slip`.
+
+/// One way of getting document 01 wrong that is not a moved number.
+#[derive(Clone, Copy, PartialEq, Eq, Debug)]
+#[rustfmt::skip]
+pub enum Slip {
+    None,
+    // The sample and its stamp
+    StampMoved, StampNotRound, CodesSwapped, AgesGrowRefused, VoteRefused, Row0Used,
+    // A fresh start
+    FreshAge0, FreshHandleUp,
+    // Ages
+    AgesGoRound, StartKeepsAge, StopKeepsAge, HandleAgeKept, HandleAgeLate,
+    // Voting
+    LetBack, NeverStruck, FirstChannel, TwoDifferAgree, TwoDifferNoRed,
+    // Monitors
+    MonitorsFirst, MonitorsOldAge, NotLatched, Cause11NoEnd,
+    // Sequence
+    LatchingMove, RedMoves, ClosingKept, OpeningKept, TwoMoves, WrongWayKept,
+    AnyDoorOpen, AnyDoorClosed, AnyGearThere, AimSwapped,
+    // Orders
+    OppositeUnchecked, OppositeAgeOnly, OppositeAtStop, OppositesSwapped, WaitsOldAge,
+    GeneralOnUnchecked, OrdersKeptRed, GeneralKeptRed, GeneralWaitsNone, GeneralOnlyClosed,
+    // Lights
+    GreenKept, OrangeDoors, NoRed,
+    // The trace and its program
+    FiveBeforeSix, SevenBeforeFive, SevenBeforeSix, LabelUnchecked, LabelKeptOnRefusal,
+    LabelRound, StampRound, LeadingZero, PlusSign, EmptyNumber, DigitUnchecked, ExtraField,
+    LfEndsRow, CrDropped, CrCrLf, EmptyLastRow, LastRowDropped, LastCrLfCopied,
+    HeaderUnchecked, HeaderLong5, NoHeaderSilent, LineIsLabel, GoesOn, RefusedEmpty,
+    // Not visible in the output rows of document 01
+    InvalidTakesNew, InvalidBack, HighestCause, StampMovedOn3,
+}
+
+#[derive(Clone, Debug)]
+pub struct Rules {
+    pub elapsed_max: u64,
+    pub age_cap: u64,
+    pub general_wait: u64,
+    pub opposite_wait: u64,
+    pub general_stop: u64,
+    /// The age from which causes 1 to 12 can hold (index 0 is not used).
+    pub cause: [u64; 13],
+    /// The age at which cause 11 holds no more.
+    pub cause_11_end: u64,
+    pub row_max: usize,
+    pub slip: Slip,
+}
+
+impl Default for Rules {
+    fn default() -> Self {
+        Rules {
+            elapsed_max: 100,
+            age_cap: 60_000,
+            general_wait: 200,
+            opposite_wait: 100,
+            general_stop: 1_000,
+            cause: [
+                0, 7_000, 7_000, 7_000, 7_000, 7_000, 10_000, 7_000, 10_000, 2_000, 10_000, 1_000, 21_500,
+            ],
+            cause_11_end: 20_000,
+            row_max: 512,
+            slip: Slip::None,
+        }
+    }
+}
+
+impl Rules {
+    #[inline]
+    pub fn is(&self, slip: Slip) -> bool {
+        self.slip == slip
+    }
+}
+
+fn slips(list: &[(&str, Slip)]) -> Vec<(String, Rules)> {
+    list.iter().map(|&(name, slip)| (name.to_string(), Rules { slip, ..Rules::default() })).collect()
+}
+
+/// Every fault that the output rows can show.
+pub fn faults() -> Vec<(String, Rules)> {
+    use Slip::*;
+    let mut all = slips(&[
+        ("stamp_moved_on_refusal", StampMoved),
+        ("stamp_not_modulo_2p32", StampNotRound),
+        ("codes_3_4_swapped", CodesSwapped),
+        ("ages_grow_on_refusal", AgesGrowRefused),
+        ("vote_on_refusal", VoteRefused),
+        ("row_0_sample_used", Row0Used),
+        ("fresh_ages_0", FreshAge0),
+        ("fresh_handle_up", FreshHandleUp),
+        ("ages_go_round_at_60000", AgesGoRound),
+        ("start_keeps_age", StartKeepsAge),
+        ("stop_keeps_age", StopKeepsAge),
+        ("handle_age_not_reset", HandleAgeKept),
+        ("handle_age_reset_after_monitors", HandleAgeLate),
+        ("struck_channel_let_back", LetBack),
+        ("channel_never_struck", NeverStruck),
+        ("first_channel_taken", FirstChannel),
+        ("two_differ_first_taken", TwoDifferAgree),
+        ("invalid_sensor_no_anomaly", TwoDifferNoRed),
+        ("monitors_before_vote", MonitorsFirst),
+        ("monitors_use_old_ages", MonitorsOldAge),
+        ("anomaly_not_latched", NotLatched),
+        ("cause_11_without_end", Cause11NoEnd),
+        ("move_in_latching_step", LatchingMove),
+        ("moves_with_anomaly", RedMoves),
+        ("closing_never_reopened", ClosingKept),
+        ("opening_never_reclosed", OpeningKept),
+        ("two_moves_in_a_step", TwoMoves),
+        ("gears_wrong_way_kept", WrongWayKept),
+        ("some_door_open_enough", AnyDoorOpen),
+        ("some_door_closed_enough", AnyDoorClosed),
+        ("some_gear_there_enough", AnyGearThere),
+        ("aim_swapped", AimSwapped),
+        ("opposite_unchecked", OppositeUnchecked),
+        ("opposite_age_only", OppositeAgeOnly),
+        ("opposite_started_in_stopping_step", OppositeAtStop),
+        ("opposites_swapped", OppositesSwapped),
+        ("waits_use_old_ages", WaitsOldAge),
+        ("general_age_only", GeneralOnUnchecked),
+        ("orders_kept_on_anomaly", OrdersKeptRed),
+        ("general_kept_on_anomaly", GeneralKeptRed),
+        ("general_stops_without_wait", GeneralWaitsNone),
+        ("general_stop_forgets_gear_orders", GeneralOnlyClosed),
+        ("green_until_retracted", GreenKept),
+        ("orange_while_doors_move", OrangeDoors),
+        ("red_never_lit", NoRed),
+        ("row_5_before_6", FiveBeforeSix),
+        ("row_7_before_5", SevenBeforeFive),
+        ("row_7_before_6", SevenBeforeSix),
+        ("label_unchecked", LabelUnchecked),
+        ("label_kept_on_refusal", LabelKeptOnRefusal),
+        ("label_modulo_2p32", LabelRound),
+        ("stamp_text_modulo_2p32", StampRound),
+        ("leading_zero_taken", LeadingZero),
+        ("plus_sign_taken", PlusSign),
+        ("empty_number_taken", EmptyNumber),
+        ("digit_unchecked", DigitUnchecked),
+        ("extra_field_taken", ExtraField),
+        ("lone_lf_ends_row", LfEndsRow),
+        ("final_cr_dropped", CrDropped),
+        ("cr_cr_lf_ends_row", CrCrLf),
+        ("empty_last_row_ignored", EmptyLastRow),
+        ("last_row_without_crlf_dropped", LastRowDropped),
+        ("last_crlf_copied_from_input", LastCrLfCopied),
+        ("header_unchecked", HeaderUnchecked),
+        ("header_over_512_is_5", HeaderLong5),
+        ("empty_input_silent", NoHeaderSilent),
+        ("refusal_row_bears_label", LineIsLabel),
+        ("goes_on_after_refusal_row", GoesOn),
+        ("fields_empty_on_3_4", RefusedEmpty),
+    ]);
+    let mut number = |name: &str, get: fn(&mut Rules) -> &mut u64| {
+        for off in [-1, 1] {
+            let mut rules = Rules::default();
+            let n = get(&mut rules);
+            *n = n.wrapping_add_signed(off);
+            all.push((format!("{name}_{n}"), rules));
+        }
+    };
+    number("elapsed_limit", |r| &mut r.elapsed_max);
+    number("general_wait", |r| &mut r.general_wait);
+    number("opposite_wait", |r| &mut r.opposite_wait);
+    number("general_stop", |r| &mut r.general_stop);
+    number("cause_1_at", |r| &mut r.cause[1]);
+    number("cause_2_at", |r| &mut r.cause[2]);
+    number("cause_3_at", |r| &mut r.cause[3]);
+    number("cause_4_at", |r| &mut r.cause[4]);
+    number("cause_5_at", |r| &mut r.cause[5]);
+    number("cause_6_at", |r| &mut r.cause[6]);
+    number("cause_7_at", |r| &mut r.cause[7]);
+    number("cause_8_at", |r| &mut r.cause[8]);
+    number("cause_9_at", |r| &mut r.cause[9]);
+    number("cause_10_at", |r| &mut r.cause[10]);
+    number("cause_11_at", |r| &mut r.cause[11]);
+    number("cause_11_end", |r| &mut r.cause_11_end);
+    number("cause_12_at", |r| &mut r.cause[12]);
+    for n in 1..=12 {
+        let mut rules = Rules::default();
+        rules.cause[n] = u64::MAX;
+        all.push((format!("cause_{n}_never"), rules));
+    }
+    for row_max in [511, 513] {
+        all.push((format!("row_limit_{row_max}"), Rules { row_max, ..Rules::default() }));
+    }
+    all.push(("age_cap_21499".into(), Rules { age_cap: 21_499, ..Rules::default() }));
+    all.push(("opposite_wait_0".into(), Rules { opposite_wait: 0, ..Rules::default() }));
+    all
+}
+
+/// Faults that no output row of document 01 can show: a sensor that becomes invalid latches the
+/// anomaly in that step and nothing that depends on its value moves again; the cause is not
+/// written; no threshold lies at the cap; on a refusal 3 both stamps are equal.
+pub fn unseen() -> Vec<(String, Rules)> {
+    let mut all = slips(&[
+        ("invalid_sensor_takes_new_value", Slip::InvalidTakesNew),
+        ("invalid_sensor_let_back", Slip::InvalidBack),
+        ("highest_cause_kept", Slip::HighestCause),
+        ("stamp_moved_on_3", Slip::StampMovedOn3),
+    ]);
+    for age_cap in [59_999, 60_001, 21_500] {
+        all.push((format!("age_cap_{age_cap}"), Rules { age_cap, ..Rules::default() }));
+    }
+    all
+}
+
+pub fn by_name(name: &str) -> Option<Rules> {
+    faults().into_iter().chain(unseen()).find(|f| f.0 == name).map(|f| f.1)
+}

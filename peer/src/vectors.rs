@@ -1,0 +1,434 @@
+//! Stored vectors: small traces, each made to show one thing, so that every fault of
+//! `rules::faults` changes the output of at least one of them.
+
+use crate::gen::{cut, field, lesson, same, trace, Script, Tape, Travel};
+use crate::rig::*;
+use crate::trace::HEADER;
+
+const NEVER: u64 = u64::MAX;
+const AT_REST: u32 = HANDLE | GEAR_EXTENDED | DOOR_CLOSED;
+const OPEN_ALL: Travel = Travel { leave: 100, arrive: 300 };
+
+/// A script with the handle up and the named order just started.
+fn started(order: usize) -> Script {
+    let mut s = Script::new(1_000);
+    s.step(100);
+    s.handle(false, 100);
+    if order == EXTEND {
+        // Turned back while the gears move.
+        s.until(|rig| rig.is_on(RETRACT));
+        s.travel[RETRACT - 1] = [Travel { leave: 1, arrive: 1 }; 3];
+        s.until(|rig| rig.gears == Gears::Retracted);
+        s.handle(true, 100);
+    }
+    s.until(|rig| rig.is_on(order));
+    s
+}
+
+/// Both sides of a cause that is about an order: `leave` and `arrive` decide which one it is.
+fn cause(order: usize, leave: u64, arrive: u64, mark: u64) -> Vec<u8> {
+    let mut s = started(order);
+    s.travel[order - 1] = [OPEN_ALL, Travel { leave, arrive }, OPEN_ALL];
+    s.land(order, mark - 1);
+    assert!(!s.tape.red());
+    s.step(1);
+    assert!(s.tape.red());
+    // The anomaly stays, the four orders are off, general_EV goes 1,000 ms later.
+    s.travel[order - 1] = [OPEN_ALL; 3];
+    s.land(order, 999);
+    s.step(1);
+    s.step(50);
+    s.tape.text
+}
+
+fn handle_up() -> Script {
+    let mut s = Script::new(1_000);
+    s.step(100);
+    s.handle(false, 50);
+    s
+}
+
+/// A short sound trace, as rows.
+fn plain() -> Vec<Vec<u8>> {
+    let mut s = Script::new(4_294_967_200);
+    s.step(20);
+    s.handle(false, 100);
+    s.step(100);
+    s.step(100);
+    cut(&s.tape.text)
+}
+
+fn with_breaks(rows: &[Vec<u8>]) -> Vec<u8> {
+    rows.iter().flat_map(|row| [&row[..], b"\r\n"].concat()).collect()
+}
+
+/// The sound trace with one row changed.
+fn changed(row: usize, change: impl Fn(&mut Vec<u8>)) -> Vec<u8> {
+    let mut rows = plain();
+    change(&mut rows[row]);
+    with_breaks(&rows)
+}
+
+fn padded(row: usize, length: usize, with: u8, label: Option<&str>) -> Vec<u8> {
+    changed(row, |text| {
+        if let Some(label) = label {
+            field(text, 0, label.into());
+        }
+        text.resize(length, with);
+    })
+}
+
+/// Session S, from the text of document 01.
+pub fn session_s() -> Vec<u8> {
+    let mut tape = Tape::new(1_000, same(AT_REST));
+    let stamps = [1050, 1150, 1250, 1350, 1350, 1400, 1450, 1551, 1550, 1649, 1650];
+    for (n, stamp) in (1..).zip(stamps) {
+        let mut seen = AT_REST;
+        if (2..=8).contains(&n) {
+            seen &= !HANDLE;
+        }
+        if n >= 6 {
+            seen = seen & !DOOR_CLOSED | DOOR_OPEN;
+        }
+        if n >= 9 {
+            seen &= !GEAR_EXTENDED;
+        }
+        tape.at(stamp, same(seen));
+    }
+    tape.text
+}
+
+/// Two samples in which one channel of a sensor is odd, and one in which another is.
+fn vote(sensor: u32, then: [bool; 3]) -> Vec<u8> {
+    let mut tape = Tape::new(7, same(AT_REST));
+    let rest = same(AT_REST);
+    tape.after(10, rest);
+    let odd = |channels: [bool; 3]| {
+        let mut sample = rest;
+        (0..3).filter(|&n| channels[n]).for_each(|n| sample[n] ^= sensor);
+        sample
+    };
+    tape.after(10, odd([false, false, true])); // P1: channel 3 struck
+    tape.after(10, odd([false, false, true]));
+    tape.after(10, rest); // P3: it stays struck
+    tape.after(10, odd([true, true, false]));
+    tape.after(10, odd(then));
+    tape.after(10, rest);
+    tape.after(10, odd([true, true, true]));
+    tape.text
+}
+
+/// Name and trace of every stored vector.
+pub fn vectors() -> Vec<(String, Vec<u8>)> {
+    let mut all: Vec<(String, Vec<u8>)> = Vec::new();
+    let mut add = |name: &str, text: Vec<u8>| all.push((name.to_string(), text));
+
+    add("session_s", session_s());
+    add("lesson", lesson(3_500).text);
+
+    // Both sides of each threshold.
+    add("edge_cause_1", cause(OPEN, NEVER, 7_000, 7_000));
+    add("edge_cause_2", cause(OPEN, 100, NEVER, 7_000));
+    add("edge_cause_3", cause_close(NEVER, 7_000));
+    add("edge_cause_4", cause_close(100, NEVER));
+    add("edge_cause_5", cause(RETRACT, NEVER, NEVER, 7_000));
+    add("edge_cause_6", cause(RETRACT, 100, NEVER, 10_000));
+    add("edge_cause_7", cause(EXTEND, NEVER, NEVER, 7_000));
+    add("edge_cause_8", cause(EXTEND, 100, NEVER, 10_000));
+    add("edge_cause_9", {
+        let mut s = handle_up();
+        s.rise = NEVER;
+        s.land(GENERAL, 1_999);
+        s.step(1);
+        s.step(100);
+        s.tape.text
+    });
+    add("edge_cause_10", {
+        let mut s = handle_up();
+        s.fall = NEVER;
+        s.handle(true, 10); // before open_EV could start
+        s.until(|rig| rig.doors == Doors::Closed && !rig.is_on(GENERAL));
+        s.land(GENERAL, 9_999);
+        s.step(1);
+        s.step(100);
+        s.tape.text
+    });
+    for (name, open_at, land) in [
+        ("edge_cause_11_at_19999", 19_999, 19_999),
+        ("edge_cause_11_at_20000", 20_000, 20_000),
+        ("edge_cause_12", NEVER, 21_500),
+    ] {
+        let mut s = handle_up();
+        s.switch.1 = open_at;
+        s.land(HANDLE_CLOCK, land - 1);
+        s.step(1);
+        s.step(100);
+        s.step(100);
+        add(name, s.tape.text);
+    }
+    add("edge_cause_11_at_1000", {
+        let mut s = handle_up();
+        s.switch.0 = NEVER;
+        s.land(HANDLE_CLOCK, 999);
+        s.step(1);
+        s.step(100);
+        s.tape.text
+    });
+    add("edge_elapsed", {
+        let mut s = Script::new(4_294_967_190);
+        for elapsed in [1, 100, 101, 99, 0, 1, 102, 100] {
+            s.step(elapsed);
+        }
+        s.tape.text
+    });
+    add("edge_general_wait", {
+        let mut s = handle_up();
+        s.land(GENERAL, 199);
+        s.step(1);
+        s.step(50);
+        s.tape.text
+    });
+    add("edge_general_stop", {
+        let mut s = handle_up();
+        s.until(|rig| rig.is_on(OPEN));
+        s.handle(true, 100);
+        s.until(|rig| rig.doors == Doors::Closed);
+        s.land(CLOSE, 999);
+        s.step(1);
+        s.step(100);
+        s.tape.text
+    });
+    add("edge_opposite_doors", {
+        let mut s = handle_up();
+        s.until(|rig| rig.is_on(OPEN));
+        s.step(100);
+        s.handle(true, 100); // stops open_EV, P12
+        s.land(OPEN, 99);
+        s.step(1);
+        s.step(40);
+        s.handle(false, 10); // stops close_EV, P11
+        s.land(CLOSE, 99);
+        s.step(1);
+        s.tape.text
+    });
+    add("edge_opposite_gears", {
+        let mut s = started(RETRACT);
+        s.travel[RETRACT - 1] = [Travel { leave: 50, arrive: 2_000 }; 3];
+        s.step(100);
+        s.handle(true, 100);
+        s.land(RETRACT, 99);
+        s.step(1);
+        s.step(40);
+        s.handle(false, 10);
+        s.land(EXTEND, 99);
+        s.step(1);
+        s.tape.text
+    });
+    add("idle_61000", {
+        // Switch open and no pressure for long: nothing is ever late.
+        let mut s = Script::new(0);
+        for _ in 0..620 {
+            s.step(99);
+        }
+        s.tape.text
+    });
+
+    // The sequence.
+    add("sequence_reversals", {
+        let mut s = handle_up();
+        s.until(|rig| rig.doors == Doors::Open);
+        s.handle(true, 30); // gears EXTENDED, doors OPEN: CLOSING
+        s.step(30);
+        s.handle(false, 30);
+        s.until(|rig| rig.gears == Gears::Retracted);
+        s.until(|rig| rig.is_on(CLOSE));
+        s.handle(true, 30); // P11
+        s.until(|rig| rig.gears == Gears::Extending);
+        s.handle(false, 30);
+        s.until(|rig| rig.doors == Doors::Closed);
+        s.step(100);
+        s.handle(true, 100);
+        s.until(|rig| !rig.is_on(GENERAL));
+        s.step(100);
+        s.tape.text
+    });
+    add("sequence_one_unit_late", {
+        let mut s = handle_up();
+        for order in 0..4 {
+            s.travel[order][2 - order % 3].arrive = 800;
+        }
+        s.until(|rig| rig.gears == Gears::Retracted && rig.doors == Doors::Closed);
+        s.handle(true, 100);
+        s.until(|rig| !rig.is_on(GENERAL));
+        s.tape.text
+    });
+    add("general_stop_after_gears", {
+        // The doors are seen closed at once: the gear order is the last to be quiet for 1,000 ms.
+        let mut s = handle_up();
+        s.until(|rig| rig.is_on(RETRACT));
+        let mut seen = s.look(50) | DOOR_CLOSED | DOOR_OPEN;
+        for invalid in [false, false, true, true] {
+            // Channel 1 of the switch is struck, then the sensor is invalid.
+            seen |= SWITCH;
+            s.tape.after(50, [seen & !SWITCH, seen, if invalid { seen & !SWITCH } else { seen }]);
+        }
+        s.land(RETRACT, 999);
+        s.step(1);
+        s.tape.text
+    });
+    add("latching_move", {
+        let mut s = handle_up();
+        s.rise = NEVER;
+        s.travel[OPEN - 1] = [Travel { leave: 100, arrive: 1_800 }; 3];
+        s.land(GENERAL, 2_000);
+        s.rise = 0;
+        s.until(|rig| !rig.is_on(GENERAL));
+        s.handle(true, 100);
+        s.step(100);
+        s.tape.text
+    });
+    add("seen_open_at_7000", {
+        let mut s = started(OPEN);
+        s.travel[OPEN - 1] = [Travel { leave: 7_000, arrive: 7_000 }; 3];
+        s.land(OPEN, 6_999);
+        s.step(1);
+        s.step(100);
+        s.tape.text
+    });
+    add("handle_twice", {
+        // The handle's age starts again: switch open for less than 1,000 ms, closed past 21,500.
+        let mut s = handle_up();
+        s.switch = (900, 20_500);
+        s.land(HANDLE_CLOCK, 950);
+        s.handle(true, 90);
+        s.land(HANDLE_CLOCK, 940);
+        s.step(100);
+        s.tape.text
+    });
+    add("handle_moved_when_late", {
+        // The step in which the handle moves: its age is 0 when the monitors look.
+        let mut s = handle_up();
+        s.switch.1 = 20_000;
+        s.until(|rig| rig.doors == Doors::Closed);
+        s.land(HANDLE_CLOCK, 21_450);
+        s.switch = (0, NEVER);
+        s.handle(true, 60);
+        s.step(100);
+        s.tape.text
+    });
+
+    // Voting.
+    add("vote_struck_stays", vote(ON_GROUND, [true, false, false]));
+    add("vote_two_differ", vote(1 << 8, [false, true, true]));
+    add("vote_handle", vote(HANDLE, [true, true, false]));
+    add("vote_each_channel", {
+        let mut tape = Tape::new(0, same(AT_REST));
+        for channel in 0..3 {
+            let mut sample = same(AT_REST);
+            sample[channel] ^= 1 << (8 + channel) | 1 << (5 + channel);
+            tape.after(50, sample);
+        }
+        for channel in 0..3 {
+            // A struck channel says anything.
+            let mut sample = same(AT_REST);
+            sample[channel] ^= 1 << (8 + channel);
+            tape.after(50, sample);
+        }
+        let mut sample = same(AT_REST & !HANDLE);
+        sample[0] ^= HANDLE;
+        for _ in 0..4 {
+            tape.after(100, sample);
+        }
+        sample[2] ^= 1 << 9;
+        tape.after(50, sample);
+        tape.text
+    });
+    add("vote_row_0", {
+        // Row 0 would strike a channel and move the handle, were it used.
+        let mut tape = Tape::new(0, [ON_GROUND | PRESSURIZED, 0, PRESSURIZED]);
+        let rest = AT_REST;
+        tape.after(100, [rest, rest ^ ON_GROUND, rest]);
+        for _ in 0..12 {
+            tape.after(100, [rest, rest, rest]);
+        }
+        tape.text
+    });
+
+    // Stamps.
+    add("stamp_round", {
+        let mut s = Script::new(4_294_967_290);
+        s.tape.at(4, same(AT_REST)); // P4
+        s.handle(false, 90);
+        s.step(100);
+        s.tape.text
+    });
+    add("stall", {
+        let mut s = handle_up();
+        s.step(100);
+        let (seen, last) = (s.seen, s.tape.rig.stamp);
+        // Past 100 ms: refused, though each is near the one before; then the stamp comes round.
+        for past in [101, 150, 200, 5_000, 0, u32::MAX, 1 << 31] {
+            s.tape.at(last.wrapping_add(past), [seen ^ ON_GROUND, seen, seen ^ HANDLE]);
+        }
+        s.tape.at(last + 99, same(seen));
+        s.tape.at(last + 100, [seen, seen ^ ON_GROUND, seen]);
+        s.step(99);
+        s.step(100);
+        s.tape.text
+    });
+
+    // Inputs that are wrong.
+    let rows = plain();
+    let whole = with_breaks(&rows);
+    add("bad_empty", Vec::new());
+    add("bad_header_case", changed(0, |row| row[0] = b'S'));
+    add("bad_header_513", padded(0, 513, b' ', None));
+    add("bad_no_final_crlf", whole[..whole.len() - 2].to_vec());
+    add("bad_final_cr", whole[..whole.len() - 1].to_vec());
+    add("bad_double_crlf", [&whole[..], b"\r\n"].concat());
+    add("bad_lone_lf", rows.join(&b'\n'));
+    add("bad_row_lone_lf", changed(2, |row| row.extend_from_slice(b"\n2,4294967230")));
+    add("bad_cr_cr_lf", changed(3, |row| row.push(b'\r')));
+    add("bad_row_512", padded(3, 512, b'0', None));
+    add("bad_row_513", padded(3, 513, b'0', None));
+    add("bad_row_513_label", padded(3, 513, b'0', Some("7")));
+    add("bad_row_512_cr", [&with_breaks(&rows[..2]), &vec![b','; 512][..], b"\r"].concat());
+    add(
+        "bad_row_label_form",
+        changed(3, |row| {
+            field(row, 0, b"7".to_vec());
+            field(row, 9, b"0".to_vec());
+        }),
+    );
+    for (name, which, text) in [
+        ("bad_label_next", 0, "3"),
+        ("bad_label_zero", 0, "02"),
+        ("bad_label_plus", 0, "+2"),
+        ("bad_label_2p32", 0, "4294967298"),
+        ("bad_stamp_2p32", 1, "4294967306"),
+        ("bad_stamp_empty", 1, ""),
+        ("bad_triple_digit", 6, "012"),
+        ("bad_triple_extra", 19, "000,000"),
+    ] {
+        add(name, changed(3, |row| field(row, which, text.into())));
+    }
+    add("header_only", HEADER.to_vec());
+    add("random_edges", trace(5, "edges", None).unwrap());
+    all
+}
+
+/// Causes 3 and 4: the doors close after a turn back.
+fn cause_close(leave: u64, arrive: u64) -> Vec<u8> {
+    let mut s = started(OPEN);
+    s.until(|rig| rig.doors == Doors::Open);
+    s.handle(true, 50);
+    s.until(|rig| rig.is_on(CLOSE));
+    s.travel[CLOSE - 1] = [OPEN_ALL, OPEN_ALL, Travel { leave, arrive }];
+    s.land(CLOSE, 6_999);
+    assert!(!s.tape.red());
+    s.step(1);
+    assert!(s.tape.red());
+    s.land(CLOSE, 999);
+    s.step(1);
+    s.tape.text
+}

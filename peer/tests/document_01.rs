@@ -1,0 +1,187 @@
+//! Document 01, told by examples. Stored vectors are taken from VECTORS, if there are any.
+use peer::gen::{same, trace, Script, Tape, KINDS};
+use peer::rig::*;
+use peer::rules::{faults, unseen, Rules};
+use peer::trace::{replay, replay_bytes, HEADER, OUT_HEADER};
+use peer::vectors::{session_s, vectors};
+use std::io::Read;
+
+const AT_REST: u32 = HANDLE | GEAR_EXTENDED | DOOR_CLOSED;
+
+fn out(input: &[u8]) -> String {
+    String::from_utf8(replay_bytes(&Rules::default(), input).0).unwrap()
+}
+
+fn after_header(input: &[u8]) -> String {
+    out(input).strip_prefix(std::str::from_utf8(OUT_HEADER).unwrap()).unwrap().to_string()
+}
+
+#[test]
+fn session_s_as_printed() {
+    let printed = "step,code,general_EV,close_EV,open_EV,retract_EV,extend_EV,doors,gears,green,orange,red
+0,0,0,0,0,0,0,CLOSED,EXTENDED,1,0,0
+1,0,0,0,0,0,0,CLOSED,EXTENDED,1,0,0
+2,0,1,0,0,0,0,OPENING,EXTENDED,1,0,0
+3,0,1,0,0,0,0,OPENING,EXTENDED,1,0,0
+4,0,1,0,1,0,0,OPENING,EXTENDED,1,0,0
+5,3,1,0,1,0,0,OPENING,EXTENDED,1,0,0
+6,0,1,0,0,0,0,OPEN,EXTENDED,1,0,0
+7,0,1,0,0,1,0,OPEN,RETRACTING,0,1,0
+8,4,1,0,0,1,0,OPEN,RETRACTING,0,1,0
+9,0,1,0,0,0,0,OPEN,EXTENDING,0,1,0
+10,0,1,0,0,0,0,OPEN,EXTENDING,0,1,0
+11,0,1,0,0,0,1,OPEN,EXTENDING,0,1,0
+";
+    let text = session_s();
+    let row_0 = "0,1000,111,000,111,111,111,000,000,000,000,000,000,111,111,111,000,000,000,000";
+    assert_eq!(text.split(|&b| b == b'\n').nth(1).unwrap(), [row_0, "\r"].concat().as_bytes());
+    assert_eq!(out(&text), printed.replace('\n', "\r\n"));
+}
+
+#[test]
+fn stored_vectors() {
+    let dir = std::env::var("VECTORS").unwrap_or("../../shared/vectors/base".into());
+    let Ok(entries) = std::fs::read_dir(&dir) else {
+        eprintln!("no vectors at {dir}: skipped");
+        return;
+    };
+    let mut count = 0;
+    for path in entries.map(|e| e.unwrap().path()).filter(|p| p.extension().is_some_and(|e| e == "in")) {
+        let (input, wanted) =
+            (std::fs::read(&path).unwrap(), std::fs::read(path.with_extension("out")).unwrap());
+        assert_eq!(out(&input).as_bytes(), wanted, "{}", path.display());
+        count += 1;
+    }
+    println!("{count} vectors");
+}
+
+#[test]
+fn votes_p1_p2_p3() {
+    let rules = Rules::default();
+    let mut rig = Rig::fresh(&rules, 0);
+    rig.step(&rules, 10, [AT_REST | SWITCH, AT_REST | SWITCH, AT_REST]);
+    assert_eq!((rig.held & SWITCH, rig.cause), (SWITCH, 12)); // P1
+    let mut rig = Rig::fresh(&rules, 0);
+    rig.step(&rules, 10, [AT_REST | ON_GROUND, AT_REST | ON_GROUND, AT_REST]);
+    assert_eq!((rig.held & ON_GROUND, rig.cause), (ON_GROUND, 0));
+    rig.step(&rules, 20, same(AT_REST | ON_GROUND)); // P3: channel 3 agrees and stays struck
+    rig.step(&rules, 30, [AT_REST | ON_GROUND, AT_REST, AT_REST]); // P2
+    assert_eq!((rig.held & ON_GROUND, rig.cause), (ON_GROUND, 13));
+}
+
+#[test]
+fn stamps_p4_p5() {
+    let mut tape = Tape::new(4_294_967_290, same(AT_REST));
+    assert_eq!(tape.at(4, same(AT_REST)), 0);
+    assert_eq!(tape.at(105, same(AT_REST)), 4);
+    assert_eq!(tape.at(104, same(AT_REST)), 0);
+    assert_eq!(tape.at(104, same(AT_REST)), 3);
+    assert_eq!(tape.at(103, same(AT_REST)), 4);
+}
+
+#[test]
+fn ages_start_at_the_cap_and_stay() {
+    let mut s = Script::new(0);
+    assert_eq!([0, 1, 2, 3, 4, 5].map(|clock| s.age(clock)), [60_000; 6]);
+    s.step(100);
+    assert_eq!([0, 1, 2, 3, 4, 5].map(|clock| s.age(clock)), [60_000; 6]);
+    s.handle(false, 1);
+    assert_eq!((s.age(HANDLE_CLOCK), s.age(GENERAL), s.age(OPEN)), (0, 0, 60_000));
+}
+
+#[test]
+fn rows_and_their_ends() {
+    let head = [HEADER, b"\r\n"].concat();
+    let row = b"0,5,111,000,111,111,111,000,000,000,000,000,000,111,111,111,000,000,000,000";
+    let shown = "0,0,0,0,0,0,0,CLOSED,EXTENDED,1,0,0\r\n";
+    let refused = |line: u32, refusal: u32| format!("{line},{refusal},,,,,,,,,,\r\n");
+    let with = |tail: &[u8]| [&head[..], tail].concat();
+    assert_eq!(after_header(b""), refused(1, 5));
+    assert_eq!(after_header(HEADER), "");
+    assert_eq!(after_header(&head), "");
+    assert_eq!(after_header(&with(row)), shown);
+    assert_eq!(after_header(&with(&[row, &b"\r\n"[..]].concat())), shown);
+    assert_eq!(after_header(&with(&[row, &b"\r\n\r\n"[..]].concat())), shown.to_string() + &refused(3, 5));
+    assert_eq!(after_header(&with(&[row, &b"\r"[..]].concat())), refused(2, 5));
+    assert_eq!(after_header(&with(&[row, &b"\r\r\n"[..]].concat())), refused(2, 5));
+    assert_eq!(after_header(&with(&[b"1", &row[1..]].concat())), refused(2, 7));
+    assert_eq!(after_header(&with(&[b"4294967296", &row[1..]].concat())), refused(2, 5));
+    assert_eq!(after_header(&with(&[b'x'; 512])), refused(2, 5));
+    assert_eq!(after_header(&with(&[b'x'; 513])), refused(2, 6));
+    assert_eq!(after_header(&with(&[&[b'x'; 512], &b"\r\n"[..]].concat())), refused(2, 5));
+    assert_eq!(after_header(&with(&[&[b'x'; 512], &b"\r"[..]].concat())), refused(2, 6));
+    assert_eq!(after_header(&with(&[&[b'x'; 511], &b"\r"[..]].concat())), refused(2, 5));
+    assert_eq!(after_header(&[b'x'; 513]), refused(1, 6));
+    assert_eq!(after_header(&[b'x'; 512]), refused(1, 5));
+}
+
+/// Pieces of any size give the same output as the whole.
+#[test]
+fn read_in_pieces() {
+    struct Pieces<'a>(&'a [u8], usize);
+    impl Read for Pieces<'_> {
+        fn read(&mut self, buf: &mut [u8]) -> std::io::Result<usize> {
+            let n = self.1.min(buf.len()).min(self.0.len());
+            buf[..n].copy_from_slice(&self.0[..n]);
+            self.0 = &self.0[n..];
+            Ok(n)
+        }
+    }
+    for seed in 0..240 {
+        let input = trace(seed, KINDS[seed as usize % KINDS.len()], None).unwrap();
+        let whole = replay_bytes(&Rules::default(), &input).0;
+        for size in [1, 2, 7, 513] {
+            let mut text = Vec::new();
+            let _ = replay(&Rules::default(), Pieces(&input, size), &mut text);
+            assert!(text == whole, "seed {seed}, pieces of {size}");
+        }
+    }
+}
+
+#[test]
+fn laws_over_random_traces() {
+    for seed in 0..600 {
+        let kind = KINDS[seed as usize % KINDS.len()];
+        let text = out(&trace(seed, kind, None).unwrap());
+        for row in text.lines().skip(1) {
+            let f: Vec<&str> = row.split(',').collect();
+            if f[2].is_empty() {
+                continue;
+            }
+            let on: Vec<bool> = f[2..7].iter().map(|o| *o == "1").collect();
+            assert!(!(on[CLOSE] && on[OPEN] || on[RETRACT] && on[EXTEND]), "{kind} {seed}: {row}");
+            assert!(on[GENERAL] || !on.contains(&true), "{kind} {seed}: {row}");
+            assert!(!(on[RETRACT] || on[EXTEND]) || f[7] == "OPEN", "{kind} {seed}: {row}");
+            assert!(
+                !(on[CLOSE] || on[OPEN]) || f[8] == "EXTENDED" || f[8] == "RETRACTED",
+                "{kind} {seed}: {row}"
+            );
+        }
+    }
+}
+
+#[test]
+fn the_lesson_has_no_red() {
+    let (_, text) = vectors().into_iter().find(|v| v.0 == "lesson").unwrap();
+    let text = out(&text);
+    let rows: Vec<&str> = text.lines().skip(1).collect();
+    assert!((3_000..=4_000).contains(&rows.len()));
+    assert!(rows.iter().all(|row| row.ends_with(",0") && row.contains(",0,")));
+    assert!(rows.iter().any(|row| row.ends_with("CLOSED,RETRACTED,0,0,0")));
+    assert!(rows.last().unwrap().ends_with(",0,0,0,0,0,0,CLOSED,EXTENDED,1,0,0"));
+}
+
+#[test]
+fn every_fault_is_in_some_vector() {
+    let rules = Rules::default();
+    let stored: Vec<_> = vectors().into_iter().map(|v| (replay_bytes(&rules, &v.1).0, v.1)).collect();
+    let size: usize = stored.iter().map(|v| v.0.len() + v.1.len()).sum();
+    assert!(stored.len() <= 60 && size < 1_500_000);
+    let seen = |rules: &Rules| stored.iter().any(|v| replay_bytes(rules, &v.1).0 != v.0);
+    for (name, rules) in faults() {
+        assert!(seen(&rules), "{name}");
+    }
+    for (name, rules) in unseen() {
+        assert!(!seen(&rules), "{name}");
+    }
+}
