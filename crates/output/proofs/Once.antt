@@ -29,11 +29,11 @@ once x y s t rule p q =
     let e = both (p ∙ sym q) in
     (says-once x y (e .0), e .1)
 
-pub header-once : OneAnswerAnd 1 header-kinds.ps header-kinds.r header-reads.Post (List ℕ) (λ κs s. now (s .0))
-header-once κs a x y s t p q = once x y (now (s .0)) (now (t .0)) _ p q
+pub write-header-once : OneAnswerAnd 1 header-kinds.ps header-kinds.r header-reads.Post (List ℕ) (λ κs s. now (s .0))
+write-header-once κs a x y s t p q = once x y (now (s .0)) (now (t .0)) _ p q
 
-pub refusal-once : OneAnswerAnd 1 refusal-kinds.ps refusal-kinds.r refusal-reads.Post (List ℕ) (λ κs s. now (s .1 .1 .0))
-refusal-once κs a x y s t p q = once x y (now (s .1 .1 .0)) (now (t .1 .1 .0)) _ p q
+pub write-refusal-once : OneAnswerAnd 1 refusal-kinds.ps refusal-kinds.r refusal-reads.Post (List ℕ) (λ κs s. now (s .1 .1 .0))
+write-refusal-once κs a x y s t p q = once x y (now (s .1 .1 .0)) (now (t .1 .1 .0)) _ p q
 
-pub row-once : OneAnswerAnd 1 row-kinds.ps row-kinds.r row-reads.Post (List ℕ) (λ κs s. now (s .1 .1 .1 .0))
-row-once κs a x y s t p q = once x y (now (s .1 .1 .1 .0)) (now (t .1 .1 .1 .0)) _ p q
+pub write-row-once : OneAnswerAnd 1 row-kinds.ps row-kinds.r row-reads.Post (List ℕ) (λ κs s. now (s .1 .1 .1 .0))
+write-row-once κs a x y s t p q = once x y (now (s .1 .1 .1 .0)) (now (t .1 .1 .1 .0)) _ p q

@@ -50,22 +50,22 @@ one-row (Refused n) (Taken m t) h = cc
 one-row (Refused n) (Refused m) h = cc
 
 -- A part of the row: one place, and one list of bytes.
-pub one-field : (κs : Lifetimes.Lfts 1) (a : World.ArgsD field.signature κs) (x y : World.ResD field.signature κs)
+pub field-once : (κs : Lifetimes.Lfts 1) (a : World.ArgsD field.signature κs) (x y : World.ResD field.signature κs)
     (s t : Clauses.AtExit (FnKinds.endedOf 1 field-kinds.ps field-kinds.r) κs)
     → field-reads.Post κs a x s → field-reads.Post κs a y t → (ptr x ≡ ptr y) × (now x ≡ now y)
-one-field κs a x y s t p q = both (p ∙ sym q)
+field-once κs a x y s t p q = both (p ∙ sym q)
 
-pub one-number-read : OneAnswer 1 number-kinds.ps number-kinds.r number-reads.Post
-one-number-read κs a x y s t p q = one-number x y (p ∙ sym q)
+pub read-number-once : OneAnswer 1 number-kinds.ps number-kinds.r number-reads.Post
+read-number-once κs a x y s t p q = one-number x y (p ∙ sym q)
 
-pub one-triple-read : OneAnswer 1 triple-kinds.ps triple-kinds.r triple-reads.Post
-one-triple-read κs a x y s t p q = one-triple x y (p ∙ sym q)
+pub read-triple-once : OneAnswer 1 triple-kinds.ps triple-kinds.r triple-reads.Post
+read-triple-once κs a x y s t p q = one-triple x y (p ∙ sym q)
 
 -- A row: one answer, and one content of the lent buffer.
-pub one-row-read : OneAnswerAnd 2 row-kinds.ps row-kinds.r row-reads.Post (List ℕ) (λ κs s. now (s .1 .1 .0))
-one-row-read κs a x y s t p q =
+pub read-row-once : OneAnswerAnd 2 row-kinds.ps row-kinds.r row-reads.Post (List ℕ) (λ κs s. now (s .1 .1 .0))
+read-row-once κs a x y s t p q =
     let e = both (p ∙ sym q) in
     (one-row x y (e .0), e .1)
 
-pub one-header-answer : OneAnswer 1 header-kinds.ps header-kinds.r header-reads.Post
-one-header-answer κs a x y s t p q = p ∙ sym q
+pub is-header-once : OneAnswer 1 header-kinds.ps header-kinds.r header-reads.Post
+is-header-once κs a x y s t p q = p ∙ sym q

@@ -1,0 +1,17 @@
+-- `lesson::Lesson::new` meets its contract: nothing is read yet.
+-- Assumes nothing.
+use borrow.Author.Needs.{needs}
+use Rattle.lesson.specs.Replay.{nothingRead}
+use Rattle.lesson.specs.Parts.{newLesson}
+use Rattle.lesson.proofs.Lesson.new.Statement.{statement}
+use Rattle.lesson.proofs.Lesson.new.Tie as tie
+
+fresh-requires : tie.Need-fresh-requires
+fresh-requires c κs = search needs
+
+returns : tie.Need-returns
+unfolding newLesson nothingRead
+returns c = simp (c .fresh .ensures)
+
+pub new-spec : {M : Type 1} → statement M
+new-spec = tie.close (tie.spec fresh-requires returns)

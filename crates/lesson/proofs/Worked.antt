@@ -1,0 +1,37 @@
+-- Session S of document 01 comes out as it prints it, byte for byte, and so do the short inputs that end early: the rules
+-- compute.
+-- Assumes nothing.
+use mathlib.Core.List.{_∷_}
+use mathlib.Core.Path.{refl}
+use Rattle.common.specs.Ascii.{joinedByCommas}
+use Rattle.common.specs.Case.{AllAsWanted}
+use Rattle.common.specs.Decimal.{decimal, decimalUpTo}
+use Rattle.controller.proofs.Computing.{rules}
+use Rattle.lines.specs.Rows.{before, rowsOf}
+use Rattle.trace.specs.Numbers.{digitsFrom, numberOf, tripleOf}
+use Rattle.trace.specs.Rows.{fieldsOf, triplesOf, formOf, inTurn, readRow}
+use Rattle.trace.specs.Header.{headerNames, headerText as traceHeader, sameText}
+use Rattle.output.specs.Rows.{headerText, rowText, refusalText}
+use Rattle.lesson.specs.Replay.{
+  endsAt,
+  headerRow,
+  answerTo,
+  shownRow,
+  noSample,
+  traceRow,
+  rowOf,
+  endOf,
+  writtenOf,
+  nothingRead,
+  replayOf,
+}
+use Rattle.lesson.specs.Cases.{ended, trace, output, replays, sessionS, early, afterTheLastLabel}
+
+pub worked : AllAsWanted (sessionS ∷ afterTheLastLabel ∷ early)
+unfolding
+    rules
+    before rowsOf digitsFrom numberOf tripleOf fieldsOf triplesOf formOf inTurn readRow headerNames traceHeader sameText
+    decimal decimalUpTo joinedByCommas headerText rowText refusalText
+    endsAt headerRow answerTo shownRow noSample traceRow rowOf endOf writtenOf nothingRead replayOf
+    ended trace output replays sessionS early afterTheLastLabel
+worked = refl

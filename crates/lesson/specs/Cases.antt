@@ -1,0 +1,114 @@
+-- Document 01, "Session S", as the whole input and the whole output, and short inputs that end early.
+-- Assumes nothing.
+use mathlib.Core.List.{List, [], _∷_, _++_}
+use Prim.Native.Nat.{ℕ}
+use Prim.Native.String.{String}
+use lib.ListN.{drop, replicate}
+use Rattle.common.specs.Ascii.{ascii}
+use Rattle.common.specs.Case.{Case}
+use Rattle.trace.specs.declared.Due.the-variants.{Label}
+use Rattle.trace.specs.Header.{headerText as traceHeader}
+use Rattle.controller.specs.Start.{freshOf}
+use Rattle.output.specs.Rows.{headerText, crlf}
+use Rattle.lesson.specs.declared.Phase.the-variants.{Rows}
+use Rattle.lesson.specs.Replay.{writtenOf, replayOf}
+
+-- Rows that each end in CRLF.
+unfoldable pub ended : List (List ℕ) → List ℕ
+ended [] = []
+ended (row ∷ rows) = row ++ crlf ++ ended rows
+
+-- A trace: its header, and rows that each end in CRLF.
+unfoldable pub trace : List (List ℕ) → List ℕ
+trace rows = ended (traceHeader ∷ rows)
+
+-- An output: its header, and rows that each end in CRLF.
+unfoldable pub output : List (List ℕ) → List ℕ
+output rows = headerText ++ ended rows
+
+unfoldable pub replays : String → List ℕ → List ℕ → Case
+replays name input wanted = record { name = name; gives = replayOf input; wanted = wanted }
+
+-- ---- Session S
+
+-- The rest of a row of Session S by what changes in it: handle, gear_extended, door_closed, door_open.
+abbrev pub atRest : List ℕ
+atRest = ascii "111,000,111,111,111,000,000,000,000,000,000,111,111,111,000,000,000,000"
+
+abbrev pub handleUp : List ℕ
+handleUp = ascii "000,000,111,111,111,000,000,000,000,000,000,111,111,111,000,000,000,000"
+
+abbrev pub doorsOpen : List ℕ
+doorsOpen = ascii "000,000,111,111,111,000,000,000,000,000,000,000,000,000,111,111,111,000"
+
+abbrev pub gearsMoving : List ℕ
+gearsMoving = ascii "111,000,000,000,000,000,000,000,000,000,000,000,000,000,111,111,111,000"
+
+unfoldable pub sessionS : Case
+sessionS =
+    replays "Session S"
+    (trace
+    ((ascii "0,1000," ++ atRest)
+    ∷ (ascii "1,1050," ++ atRest)
+    ∷ (ascii "2,1150," ++ handleUp)
+    ∷ (ascii "3,1250," ++ handleUp)
+    ∷ (ascii "4,1350," ++ handleUp)
+    ∷ (ascii "5,1350," ++ handleUp)
+    ∷ (ascii "6,1400," ++ doorsOpen)
+    ∷ (ascii "7,1450," ++ doorsOpen)
+    ∷ (ascii "8,1551," ++ doorsOpen)
+    ∷ (ascii "9,1550," ++ gearsMoving)
+    ∷ (ascii "10,1649," ++ gearsMoving)
+    ∷ (ascii "11,1650," ++ gearsMoving)
+    ∷ []))
+    (output
+    (ascii "0,0,0,0,0,0,0,CLOSED,EXTENDED,1,0,0"
+    ∷ ascii "1,0,0,0,0,0,0,CLOSED,EXTENDED,1,0,0"
+    ∷ ascii "2,0,1,0,0,0,0,OPENING,EXTENDED,1,0,0"
+    ∷ ascii "3,0,1,0,0,0,0,OPENING,EXTENDED,1,0,0"
+    ∷ ascii "4,0,1,0,1,0,0,OPENING,EXTENDED,1,0,0"
+    ∷ ascii "5,3,1,0,1,0,0,OPENING,EXTENDED,1,0,0"
+    ∷ ascii "6,0,1,0,0,0,0,OPEN,EXTENDED,1,0,0"
+    ∷ ascii "7,0,1,0,0,1,0,OPEN,RETRACTING,0,1,0"
+    ∷ ascii "8,4,1,0,0,1,0,OPEN,RETRACTING,0,1,0"
+    ∷ ascii "9,0,1,0,0,0,0,OPEN,EXTENDING,0,1,0"
+    ∷ ascii "10,0,1,0,0,0,0,OPEN,EXTENDING,0,1,0"
+    ∷ ascii "11,0,1,0,0,0,1,OPEN,EXTENDING,0,1,0"
+    ∷ []))
+
+-- ---- Inputs that end early
+
+-- Row 0 at stamp 1000 and what is written of it.
+abbrev pub row0 : List ℕ
+row0 = ascii "0,1000," ++ atRest
+
+abbrev pub shown0 : List ℕ
+shown0 = ascii "0,0,0,0,0,0,0,CLOSED,EXTENDED,1,0,0"
+
+unfoldable pub early : List Case
+early =
+    replays "no header" [] (output (ascii "1,5,,,,,,,,,," ∷ []))
+    ∷ replays "a first row that is not the header" (ascii "Step" ++ drop 4 (trace [])) (output (ascii "1,5,,,,,,,,,," ∷ []))
+    ∷ replays "a first row of 513 bytes" (replicate 513 48) (output (ascii "1,6,,,,,,,,,," ∷ []))
+    ∷ replays "the header alone, without its CRLF" traceHeader (output [])
+    ∷ replays "the first label is 1" (trace ((ascii "1,1000," ++ atRest) ∷ [])) (output (ascii "2,7,,,,,,,,,," ∷ []))
+    ∷ replays "a wrong label in a row that breaks the form" (trace (ascii "1,1000" ∷ row0 ∷ [])) (output (ascii "2,5,,,,,,,,,," ∷ []))
+    ∷ replays "a wrong label in a row of 513 bytes" (trace ((ascii "7," ++ replicate 511 48) ∷ [])) (output (ascii "2,6,,,,,,,,,," ∷ []))
+    ∷ replays "512 bytes and a lone CR" (trace (row0 ∷ (replicate 512 48 ++ 13 ∷ []) ∷ [])) (output (shown0 ∷ ascii "3,6,,,,,,,,,," ∷ []))
+    ∷ replays "an empty row at the end" (trace (row0 ∷ [] ∷ [])) (output (shown0 ∷ ascii "3,5,,,,,,,,,," ∷ []))
+    ∷ replays "a CR at the end" (trace [] ++ row0 ++ 13 ∷ []) (output (ascii "2,5,,,,,,,,,," ∷ []))
+    ∷ replays "a last row without its CRLF" (trace [] ++ row0) (output (shown0 ∷ []))
+    ∷ replays "a lone LF in front of a row" (trace ((10 ∷ row0) ∷ [])) (output (ascii "2,5,,,,,,,,,," ∷ []))
+    ∷ replays "a label of 4,294,967,296" (trace (row0 ∷ (ascii "4294967296,1050," ++ atRest) ∷ [])) (output (shown0 ∷ ascii "3,5,,,,,,,,,," ∷ []))
+    ∷ []
+
+-- After 4,294,967,295 no label is due: a further row in form gets 7, and the line number passes 32 bits.
+unfoldable pub afterTheLastLabel : Case
+afterTheLastLabel =
+    record {
+      name = "after the last label";
+      gives =
+          writtenOf (record { phase = Rows (Label 4294967295); state = freshOf 1000 })
+          ((ascii "4294967295,1100," ++ atRest) ∷ (ascii "0,1200," ++ atRest) ∷ []);
+      wanted = ended (ascii "4294967295,0,0,0,0,0,0,CLOSED,EXTENDED,1,0,0" ∷ ascii "4294967298,7,,,,,,,,,," ∷ []);
+    }

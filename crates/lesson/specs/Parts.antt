@@ -1,0 +1,115 @@
+-- The same by parts (document 01, "reads standard input through a line buffer of 512 bytes"): what taking in a part of the
+-- input gives, and what the end of the input gives, with the line buffer and the output buffer that are lent.
+-- Assumes nothing.
+use Prim.Native.Nat.{ℕ, zero, suc, _+_, _*_}
+use mathlib.Core.Bool.{Bool, false, cond, not, _||_}
+use mathlib.Core.List.{List, [], _++_}
+use lib.Dec.{eqb, ltb}
+use lib.ListN.{length, take, drop}
+use Rattle.lines.specs.Cuts.{cutOf, lastOf}
+use Rattle.lines.specs.declared.Taken.{Taken}
+use Rattle.lines.specs.declared.Taken.the-variants.{Row, More, Over}
+use Rattle.lines.specs.declared.Final.{Final}
+use Rattle.lines.specs.declared.Final.the-variants.{Nothing, Last, Wider}
+use Rattle.lesson.specs.declared.Phase.{Phase}
+use Rattle.lesson.specs.declared.Phase.the-variants.{Header, Rows, Ended}
+use Rattle.lesson.specs.declared.Reading.{Reading}
+use Rattle.lesson.specs.declared.Lesson.{Lesson}
+use Rattle.lesson.specs.declared.Took.{Took}
+use Rattle.lesson.specs.Replay.{Given, lineOf, endsAt, rowOf, endOf, nothingRead}
+
+-- The run after a part of the input, the line buffer after it, and the text that is written.
+pub record Part : Type 0 where
+  pub lesson : Lesson
+  pub line : List ℕ
+  pub text : List ℕ
+
+-- At the start nothing is read, and no row is under way.
+unfoldable pub newLesson : Lesson
+newLesson = record { reading = nothingRead; len = 0; cr = false }
+
+-- ---- A part of the input
+
+-- A row that does not fit the line buffer is over 512 bytes: refusal 6 on its line.
+abbrev pub overBy : Phase → Reading → Given
+overBy Header reading = endsAt 1 6 (reading .state)
+overBy (Rows due) reading = endsAt (lineOf due) 6 (reading .state)
+overBy (Ended line refusal) reading = (reading, [])
+
+unfoldable pub overOf : Reading → Given
+overOf reading = overBy (reading .phase) reading
+
+-- What cutting a row off gives, behind the text so far. A row that is whole is read, and `on` goes on behind it; where the
+-- part is used up, the row under way stays in the line buffer; after a row that is over nothing more is read.
+abbrev pub afterCut : (List ℕ → Reading → ℕ → List ℕ → Part) → List ℕ → Reading → Taken → List ℕ → Part
+afterCut on text reading (Row used len) line =
+    on (text ++ rowOf reading (take len line) .1) (rowOf reading (take len line) .0) used line
+afterCut on text reading (More len cr) line =
+    record { lesson = record { reading = reading; len = len; cr = cr }; line = line; text = text }
+afterCut on text reading Over line =
+    record {
+      lesson = record { reading = overOf reading .0; len = 0; cr = false };
+      line = line;
+      text = text ++ overOf reading .1;
+    }
+
+-- The part from a place on, at most so many rows of it. (There are never more: each row ends at least one byte further on.)
+unfoldable pub takenFrom : ℕ → List ℕ → List ℕ → Reading → ℕ → List ℕ → ℕ → Bool → Part
+takenFrom zero part text reading from line len cr =
+    record { lesson = record { reading = reading; len = len; cr = cr }; line = line; text = text }
+takenFrom (suc rows) part text reading from line len cr =
+    afterCut (λ text reading used line. takenFrom rows part text reading used line 0 false) text reading
+    (cutOf part from line len cr .0) (cutOf part from line len cr .1)
+
+-- All of the part: each byte ends a row at most.
+unfoldable pub partOf : Lesson → List ℕ → List ℕ → Part
+partOf lesson part line = takenFrom (suc (length part)) part [] (lesson .reading) 0 line (lesson .len) (lesson .cr)
+
+-- ---- The end of the input
+
+-- What is still in the line buffer is the last row.
+abbrev pub lastBy : Reading → Final → List ℕ → Given
+lastBy reading Nothing line = endOf reading
+lastBy reading (Last len) line = rowOf reading (take len line)
+lastBy reading Wider line = overOf reading
+
+-- Behind the last row no row is under way.
+abbrev pub ending : Given → List ℕ → Part
+ending given line = record { lesson = record { reading = given .0; len = 0; cr = false }; line = line; text = given .1 }
+
+-- The run after the end of the input.
+unfoldable pub lastPartOf : Lesson → List ℕ → Part
+lastPartOf lesson line =
+    ending (lastBy (lesson .reading) (lastOf line (lesson .len) (lesson .cr) .0) (lastOf line (lesson .len) (lesson .cr) .1))
+    (lastOf line (lesson .len) (lesson .cr) .1)
+
+-- ---- The lent buffers
+
+-- An output row has at most 64 bytes. Each byte of a part ends a row at most, and one row more is over or the last.
+abbrev pub roomFor : ℕ → ℕ
+roomFor bytes = 64 * (bytes + 1)
+
+-- Refusal 8, and the run as it was.
+unfoldable pub refused : Lesson → Took
+refused lesson = record { refusal = 8; lesson = lesson; written = 0 }
+
+-- The text stands in front of the output buffer, and its bytes past the text stay.
+unfoldable pub placed : Part → List ℕ → Took × List ℕ × List ℕ
+placed part out = (
+  record { refusal = 0; lesson = part .lesson; written = length (part .text) },
+  part .line,
+  part .text ++ drop (length (part .text)) out,
+)
+
+-- A line buffer that is not 512 bytes, or an output buffer that has no room, is refused, and both stay as they were.
+unfoldable pub lent : Lesson → List ℕ → List ℕ → ℕ → Part → Took × List ℕ × List ℕ
+lent lesson line out bytes part =
+    cond (not (eqb (length line) 512) || ltb (length out) (roomFor bytes)) (refused lesson, line, out) (placed part out)
+
+-- A part of the input.
+unfoldable pub takeOf : Lesson → List ℕ → List ℕ → List ℕ → Took × List ℕ × List ℕ
+takeOf lesson part line out = lent lesson line out (length part) (partOf lesson part line)
+
+-- The end of the input.
+unfoldable pub finishOf : Lesson → List ℕ → List ℕ → Took × List ℕ × List ℕ
+finishOf lesson line out = lent lesson line out 0 (lastPartOf lesson line)
