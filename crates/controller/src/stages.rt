@@ -157,7 +157,7 @@ impl State {
         ensures { λ r. ⌜ r ≡ sequenceStage self ⌝ }
     {
         let voters = self.voters;
-        let seen = votes::seen(votes::sight(voters));
+        let seen = votes::seen(voters);
         State {
             stamp: self.stamp,
             voters,

@@ -77,15 +77,23 @@ pub(crate) fn sight(voters: [Voter; 18]) -> Sight
     }
 }
 
+// Whether three sensors side by side all say 1.
+fn all_from(voters: [Voter; 18], i: usize) -> bool
+    requires { ⌜ i + 2 < 18 ⌝ }
+    ensures { λ r. ⌜ r ≡ threeFrom i voters .all ⌝ }
+{
+    value_at(voters, i) & value_at(voters, i + 1) & value_at(voters, i + 2)
+}
+
 // What the sequence looks at.
-pub(crate) fn seen(see: Sight) -> Seen
-    ensures { λ r. ⌜ r ≡ seenOf see ⌝ }
+pub(crate) fn seen(voters: [Voter; 18]) -> Seen
+    ensures { λ r. ⌜ r ≡ seenOf (sightOf voters) ⌝ }
 {
     Seen {
-        opened: see.opened.all,
-        closed: see.closed.all,
-        extended: see.extended.all,
-        retracted: see.retracted.all,
+        opened: all_from(voters, 14),
+        closed: all_from(voters, 11),
+        extended: all_from(voters, 2),
+        retracted: all_from(voters, 5),
     }
 }
 

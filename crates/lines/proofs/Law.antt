@@ -19,7 +19,7 @@ use Rattle.lines.specs.declared.Taken.{Taken}
 use Rattle.lines.specs.declared.Taken.the-variants.{Row, More, Over}
 use Rattle.lines.specs.declared.Final.{Final}
 use Rattle.lines.specs.declared.Final.the-variants.{Nothing, Last, Wider}
-use Rattle.lines.proofs.Steps.{OfRow, no-cr, on-held, on-break, on-byte, on-over}
+use Rattle.lines.proofs.Steps.{either, OfRow, no-cr, on-held, on-break, on-byte, on-over}
 
 -- ---- What an answer tells
 
@@ -55,10 +55,6 @@ LastTold rows (Last len) line = (len ≤ length line) × (rows ≡ take len line
 LastTold rows Wider line = StartsOver (length line) rows
 
 -- ---- The bytes of a row under way
-
-either : {P : Type 0} (t : Bool) → (t ≡ true → P) → (t ≡ false → P) → P
-either true f g = f refl
-either false f g = g refl
 
 before-byte : (row : List ℕ) (b : ℕ) (rows : List (List ℕ)) → before row (before (b ∷ []) rows) ≡ before (row ++ (b ∷ [])) rows
 unfolding before

@@ -1,18 +1,26 @@
 -- What one byte does by the rule `cutFrom`, in the words of the code's tests: each is the rule's own line with its tests told.
+-- Then the same of all bytes in front of a CR, byte by byte: they are found by one search and stored by one copy.
 -- Assumes nothing.
-use Prim.Native.Nat.{ℕ, _+_, _-_, _<_, _≤_}
-use mathlib.Core.Bool.{true, false, _&&_, and-false}
-use mathlib.Core.List.{List, [], _∷_}
-use mathlib.Core.Path.{_≡_, refl, _∙_}
+use Prim.Native.Nat.{ℕ, zero, suc, _+_, _-_, _<_, _≤_}
+use mathlib.Core.Bool.{Bool, true, false, _&&_, and-false}
+use mathlib.Core.List.{List, [], _∷_, _++_, append-assoc, append-nil}
+use mathlib.Core.Path.{_≡_, refl, sym, _∙_}
+use native.Mathlib.Nat.{add-zero}
 use native.Mathlib.Numerals.{add-one}
 use native.Mathlib.Omega.{arith}
-use borrow.Author.Tests.{eq-eqb, ne-eqb, lt-ltb, le-ltb}
+use borrow.Author.Tests.{eq-eqb, ne-eqb, eqb-false, lt-ltb, le-ltb}
 use lib.Dec.{eqb}
-use lib.ListN.{length, drop, getD, set, drop-of-length-le, length-drop}
-use lib.Seq.{drop-cons}
+use lib.ListN.{length, take, drop, getD, set, drop-of-length-le, length-take, length-drop, length-set}
+use lib.Seq.{sets, sets-eq, take-all, take-length, length-take-le, take-add, drop-at, drop-cons, drop-drop}
+use Rattle.bytes.specs.Bytes.{slice, indexOf, indexAfter}
 use Rattle.lines.specs.Rows.{cr, lf}
 use Rattle.lines.specs.Cuts.{empty, lfFirst, cutFrom}
 use Rattle.lines.specs.declared.Taken.the-variants.{Row, More, Over}
+
+-- By cases on a test, with what it told.
+pub either : {P : Type 0} (t : Bool) → (t ≡ true → P) → (t ≡ false → P) → P
+either true f g = f refl
+either false f g = g refl
 
 -- A byte of the row, with what follows it: no CR, or one that another byte than LF follows.
 pub record OfRow (b : ℕ) (s : List ℕ) : Type 0 where
@@ -67,3 +75,53 @@ module _ (s line : List ℕ) (n b at : ℕ) where
   break-at h e f =
       let left : length s - length (drop (at + 1) s) ≡ at + 1 = simp length-drop (omega arith) in
       rw (here s at h) (on-break (length s) line n b (getD s at 0) (drop (at + 1) s) (simp (eq-eqb b cr e, eq-eqb (getD s at 0) lf f)) ∙ rw left)
+
+-- ---- The bytes in front of a CR
+
+-- Of the first `m` bytes, those in front of the first CR are bytes of the row: they are stored behind those in the line.
+on-bytes : (size m : ℕ) (s line : List ℕ) (n : ℕ) → n + m ≤ length line
+    → (let k = indexOf cr (take m s) in cutFrom size line n s ≡ cutFrom size (sets line n (take k s)) (n + k) (drop k s))
+unfolding indexOf indexAfter
+on-bytes size zero s line n h = rw add-zero
+on-bytes size (suc m) [] line n h = rw add-zero
+on-bytes size (suc m) (b ∷ s) line n h =
+    either (eqb b cr) (λ t. rw (t, add-zero))
+    (λ t. let k = indexOf cr (take m s) in
+    let e : n + suc k ≡ suc n + k = omega arith in
+    rw (t, e)
+    (on-byte size line n b s (no-cr b s (eqb-false b cr t)) (omega arith)
+    ∙ rw add-one (on-bytes size m s (set line n b) (suc n) (simp length-set (omega arith)))))
+
+-- A part of a list, by its start and its end and by its start and its length.
+slice-take : (f m : ℕ) (s : List ℕ) → f ≤ length s → slice f (f + m) s ≡ take m (drop f s)
+unfolding slice
+slice-take f m s h = rw take-add (drop-at (take f s) (take m (drop f s)) f (length-take-le f s h))
+
+-- A copy into the line from place `n` on is as good as one store after the other.
+copied : (line t : List ℕ) (n : ℕ) → n + length t ≤ length line
+    → (let room = length line - n in
+    take n line ++ (take (length t) t ++ drop (length t) (take room (drop n line)) ++ drop room (drop n line)) ≡ sets line n t)
+copied line t n h =
+    let room = length line - n in
+    let e : length (drop n line) ≤ room = simp length-drop (omega arith) in
+    rw (take-length t, take-all room (drop n line) e, drop-of-length-le (drop n line) e, append-nil, drop-drop, ← append-assoc)
+    (sym (sets-eq t line n h))
+
+-- The same of a search among the `m` bytes of a part from `from` on, which answers `end`, and a copy, which leaves `d` in the
+-- line from place `n` on.
+pub bytes-at : (part line : List ℕ) (from n m end r : ℕ) (d : List ℕ) → from + m ≤ length part → n + m ≤ length line
+    → end ≡ from + indexOf cr (slice from (from + m) part)
+    → end ≤ from + m
+    → (let t = take (end - from) (drop from part) in
+    let room = length line - n in
+    r ≡ length t
+    → d ≡ take (length t) t ++ drop (length t) (take room (drop n line))
+    → cutFrom (length part) line n (drop from part)
+    ≡ cutFrom (length part) (take n line ++ (d ++ drop room (drop n line))) (n + r) (drop (from + r) part))
+bytes-at part line from n m end r d hp hl found hm er ed =
+    let t = take (end - from) (drop from part) in
+    let k = indexOf cr (take m (drop from part)) in
+    let h : from ≤ length part = omega arith in
+    let ek : end - from ≡ k = omega (arith, rw (slice-take from m part h) at found) in
+    let et : length t ≡ k = simp (length-take, length-drop) (omega arith) in
+    rw (ed, copied line t n (omega arith), er, et, ek, ← drop-drop k from part) (on-bytes (length part) m (drop from part) line n hl)

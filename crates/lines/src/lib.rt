@@ -3,7 +3,7 @@
 // However the input is cut into parts, the rows are those of the plain split: proofs/Law.antt has it for each answer,
 // proofs/Parts.antt for a whole run.
 ghost use mathlib.Core.Path.{_≡_};
-ghost use Prim.Native.Nat.{_≤_, min};
+ghost use Prim.Native.Nat.{_+_, _≤_, min};
 ghost use mathlib.Core.List.{_∷_};
 ghost use lib.ListN.{length, drop};
 ghost use Rattle.lines.specs.Rows.{cr};
@@ -43,7 +43,23 @@ fn within(len: usize, most: usize) -> usize
     most
 }
 
-// Takes in bytes where no CR is held.
+// Takes in the bytes in front of the next CR, as many as are there and as the line has room for, and answers how many they
+// are: what was to be taken in is what is left after them.
+fn until_cr(part: &[u8], from: usize, line: &mut [u8], len: usize) -> usize
+    requires { ⌜ from ≤ length (now part) ⌝ }
+    requires { ⌜ len ≤ length (now line) ⌝ }
+    ensures { λ r. ⌜ from + r ≤ length (now (part .entry)) ⌝ }
+    ensures { λ r. ⌜ len + r ≤ length (now (line .entry)) ⌝ }
+    ensures { λ r. ⌜
+        cutFrom (length (now (part .entry))) (now (line .entry)) len (drop from (now (part .entry)))
+        ≡ cutFrom (length (now (part .entry))) (now (line .exit)) (len + r) (drop (from + r) (now (part .entry))) ⌝ }
+{
+    let most = within(part.len() - from, line.len() - len);
+    let end = bytes::scan::find(part, from, from + most, CR);
+    bytes::copy(&part[from..end], &mut line[len..])
+}
+
+// Takes in bytes where no CR is held: in each turn one byte, and those behind it up to the next CR.
 fn fill(part: &[u8], from: usize, line: &mut [u8], len: usize) -> Taken
     requires { ⌜ len ≤ length (now line) ⌝ }
     ensures { λ r. ⌜ (r, now (line .exit)) ≡ cutFrom (length (now (part .entry))) (now (line .entry)) len (drop from (now (part .entry))) ⌝ }
@@ -69,7 +85,9 @@ fn fill(part: &[u8], from: usize, line: &mut [u8], len: usize) -> Taken
         }
         line[n] = b;
         n += 1;
-        at = next;
+        let more = until_cr(part, next, line, n);
+        n += more;
+        at = next + more;
     }
     Taken::More { len: n, cr: false }
 }

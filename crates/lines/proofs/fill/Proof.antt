@@ -1,5 +1,5 @@
 -- `lines::fill` meets its contract. The loop's invariant: the rule gives the same at the start as from here on, since each
--- turn is one line of the rule (`proofs/Steps.antt`). The measure is what is left of the part.
+-- turn is one line of the rule (`proofs/Steps.antt`), and then what `until_cr` ensures. The measure is what is left of the part.
 -- Assumes nothing.
 use Prim.Native.Nat.{_+_, _-_, _≤_}
 use mathlib.Core.List.{_∷_}
@@ -23,18 +23,18 @@ abbrev μ-loop : tie.MeasureT-loop
 
 -- In a turn: the rule at the start gives what it gives at this byte.
 turn : (c : tie.In-loop Inv-loop μ-loop)
-    → (let p = c .before .before .args .part .now in
+    → (let p = c .before .before .before .before .args .part .now in
     let l = c .before .loop in
-    cutFrom (length p) (c .before .before .args .line .now) (c .before .before .args .len) (drop (c .before .before .args .from) p)
+    cutFrom (length p) (c .before .before .before .before .args .line .now) (c .before .before .before .before .args .len) (drop (c .before .before .before .before .args .from) p)
     ≡ cutFrom (length p) (l .line) (l .n) (getD p (l .at) 0 ∷ drop (l .at + 1) p))
-turn c = c .before .loop .inv .2 ∙ rw (here (c .before .before .args .part .now) (c .before .loop .at) (omega arith))
+turn c = c .before .loop .inv .2 ∙ rw (here (c .before .before .before .before .args .part .now) (c .before .loop .at) (omega arith))
 
 -- Where the tests for a CR are past, the byte is one of the row.
 of-row : (c : tie.Joined1 Inv-loop μ-loop)
-    → (let p = c .before .before .before .before .args .part .now in
+    → (let p = c .before .before .before .before .before .before .args .part .now in
     let at = c .before .before .before .loop .at in OfRow (getD p at 0) (drop (at + 1) p))
 of-row c =
-    let p = c .before .before .before .before .args .part .now in
+    let p = c .before .before .before .before .before .before .args .part .now in
     let at = c .before .before .before .loop .at in
     ⊎-elim (λ w. no-lf (getD p at 0) p (at + 1) (omega arith) (w .3 .left))
     (λ w. no-cr (getD p at 0) (drop (at + 1) p) (w .left)) (c .if1 .came)
@@ -53,7 +53,7 @@ same-length c = search needs
 
 returns : tie.Need-returns Inv-loop μ-loop
 returns c =
-    let p = c .before .before .before .before .before .args .part .now in
+    let p = c .before .before .before .before .before .before .before .args .part .now in
     let l = c .before .before .before .before .loop in
     sym (turn (c .before .before .before)
     ∙ held-at p (l .line) (l .n) (getD p (l .at) 0) (l .at + 1) (omega arith) (c .before .if1 .taken))
@@ -61,15 +61,15 @@ returns c =
 shared-slice-read-if3 : tie.Need-shared-slice-read-if3 Inv-loop μ-loop
 shared-slice-read-if3 c = search needs
 
-add-t17 : tie.Need-add-t17 Inv-loop μ-loop
-add-t17 c = search needs
+add-t18 : tie.Need-add-t18 Inv-loop μ-loop
+add-t18 c = search needs
 
 same-length-2 : tie.Need-same-length-2 Inv-loop μ-loop
 same-length-2 c = search needs
 
 returns-2 : tie.Need-returns-2 Inv-loop μ-loop
 returns-2 c =
-    let p = c .before .before .before .before .before .before .before .args .part .now in
+    let p = c .before .before .before .before .before .before .before .before .before .args .part .now in
     let l = c .before .before .before .before .before .before .loop in
     sym (turn (c .before .before .before .before .before)
     ∙ break-at p (l .line) (l .n) (getD p (l .at) 0) (l .at + 1) (omega arith) (c .before .before .before .if1 .taken) (c .if3 .taken))
@@ -79,7 +79,7 @@ same-length-3 c = search needs
 
 returns-3 : tie.Need-returns-3 Inv-loop μ-loop
 returns-3 c =
-    let p = c .before .before .before .before .before .args .part .now in
+    let p = c .before .before .before .before .before .before .before .args .part .now in
     let l = c .before .before .before .before .loop in
     sym (turn (c .before .before .before)
     ∙ on-over (length p) (l .line) (l .n) (getD p (l .at) 0) (drop (l .at + 1) p) (of-row (c .before)) (omega arith))
@@ -90,17 +90,29 @@ slice-write-line c = search needs
 add-n : tie.Need-add-n Inv-loop μ-loop
 add-n c = search needs
 
+until-cr-requires : tie.Need-until-cr-requires Inv-loop μ-loop
+until-cr-requires c κs = (omega arith, simp length-set (omega arith))
+
+add-n-2 : tie.Need-add-n-2 Inv-loop μ-loop
+add-n-2 c = omega (arith, simp length-set at (c .before .before .until-cr .ensures .1 .0))
+
+add-at : tie.Need-add-at Inv-loop μ-loop
+add-at c = search needs
+
 loop-less : tie.Need-loop-less Inv-loop μ-loop
 loop-less c = search needs
 
 loop-again : tie.Need-loop-again Inv-loop μ-loop
 loop-again c =
-    let p = c .before .before .before .before .before .args .part .now in
-    let l = c .before .before .before .before .loop in (
-      simp length-set (l .inv .0),
-      simp length-set (omega arith),
-      turn (c .before .before .before)
-          ∙ on-byte (length p) (l .line) (l .n) (getD p (l .at) 0) (drop (l .at + 1) p) (of-row (c .before)) (omega arith),
+    let p = c .before .before .before .before .before .before .before .before .before .before .before .args .part .now in
+    let l = c .before .before .before .before .before .before .before .before .loop in
+    let taken = c .before .before .until-cr in
+    let kept : length (taken .last .1 .1 .0) ≡ length (l .line) = taken .kept .1 .1 .0 ∙ simp length-set in (
+      rw kept (l .inv .0),
+      omega (arith, kept, simp length-set at (taken .ensures .1 .0)),
+      rw (← taken .ensures .1 .1)
+          (turn (c .before .before .before .before .before .before .before)
+          ∙ on-byte (length p) (l .line) (l .n) (getD p (l .at) 0) (drop (l .at + 1) p) (of-row (c .before .before .before .before .before)) (omega arith)),
     )
 
 same-length-4 : tie.Need-same-length-4 Inv-loop μ-loop
@@ -108,7 +120,7 @@ same-length-4 c = search needs
 
 returns-4 : tie.Need-returns-4 Inv-loop μ-loop
 returns-4 c =
-    let p = c .before .before .args .part .now in
+    let p = c .before .before .before .before .args .part .now in
     let l = c .before .loop in
     sym (l .inv .2 ∙ rw (gone p (l .at) (omega arith)) (on-end (length p) (l .line) (l .n)))
 
@@ -124,13 +136,16 @@ fill-spec =
     same-length
     returns
     shared-slice-read-if3
-    add-t17
+    add-t18
     same-length-2
     returns-2
     same-length-3
     returns-3
     slice-write-line
     add-n
+    until-cr-requires
+    add-n-2
+    add-at
     loop-less
     loop-again
     same-length-4

@@ -5,9 +5,6 @@ use borrow.Author.Needs.{needs}
 use Rattle.controller.proofs.State.sequence.Statement.{statement}
 use Rattle.controller.proofs.State.sequence.Tie as tie
 
-sight-requires : tie.Need-sight-requires
-sight-requires c κs = search needs
-
 seen-requires : tie.Need-seen-requires
 seen-requires c κs = search needs
 
@@ -19,14 +16,7 @@ sequence-requires c κs = search needs
 
 returns : tie.Need-returns
 unfolding sequenceStage
-returns c =
-    simp (
-      c .sequence .ensures,
-      c .before .aim .ensures,
-      c .before .before .seen .ensures,
-      c .before .before .before .sight .ensures,
-    )
+returns c = simp (c .sequence .ensures, c .before .aim .ensures, c .before .before .seen .ensures)
 
 pub sequence-spec : {M : Type 1} → statement M
-sequence-spec =
-    tie.close (tie.spec sight-requires seen-requires aim-requires sequence-requires returns)
+sequence-spec = tie.close (tie.spec seen-requires aim-requires sequence-requires returns)
