@@ -40,7 +40,7 @@ fn session_s_as_printed() {
 
 #[test]
 fn stored_vectors() {
-    let dir = std::env::var("VECTORS").unwrap_or("../../shared/vectors/base".into());
+    let dir = std::env::var("VECTORS").unwrap_or("../crates/cases/data".into());
     let Ok(entries) = std::fs::read_dir(&dir) else {
         eprintln!("no vectors at {dir}: skipped");
         return;

@@ -18,6 +18,9 @@ use sequence::Gears;
 use sequence::Place;
 use voter::Voter;
 
+// Elapsed is 1 to this many ms (`limit` of specs/Steps.antt).
+const LIMIT: u32 = 100;
+
 // What a step keeps beside the stamp and the sensors: the orders, the handle's age, doors and gears, the cause (0 for none).
 pub struct Core {
     pub orders: Orders,
@@ -142,7 +145,7 @@ impl State {
                 state: self,
             };
         }
-        if 100 < elapsed {
+        if LIMIT < elapsed {
             return Answer {
                 refusal: 4,
                 state: self,

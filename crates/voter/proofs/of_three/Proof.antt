@@ -1,3 +1,5 @@
+-- `voter::of_three` meets its contract: each return is a line of the rule, by the tests that led there.
+-- Assumes nothing.
 use Rattle.voter.specs.Voting.{ofThree}
 use Rattle.voter.proofs.of_three.Statement.{statement}
 use Rattle.voter.proofs.of_three.Tie as tie

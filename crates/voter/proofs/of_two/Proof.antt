@@ -1,3 +1,5 @@
+-- `voter::of_two` meets its contract: by whether the two channels agree.
+-- Assumes nothing.
 use Rattle.voter.specs.Voting.{ofTwo}
 use Rattle.voter.proofs.of_two.Statement.{statement}
 use Rattle.voter.proofs.of_two.Tie as tie

@@ -1,3 +1,5 @@
+-- `voter::Voter::fresh` meets its contract.
+-- Assumes nothing.
 use mathlib.Core.Path.{refl}
 use Rattle.voter.specs.Voting.{freshWith}
 use Rattle.voter.proofs.Voter.fresh.Statement.{statement}

@@ -1,3 +1,5 @@
+-- `voter::Voter::invalid` meets its contract: each arm is a line of the rule.
+-- Assumes nothing.
 use Rattle.voter.specs.Voting.{isInvalid}
 use borrow.Author.Needs.{needs}
 use Rattle.voter.proofs.Voter.invalid.Statement.{statement}

@@ -1,3 +1,5 @@
+-- `voter::Voter::value` meets its contract.
+-- Assumes nothing.
 use mathlib.Core.Path.{refl}
 use Rattle.voter.specs.Voting.{valueOf}
 use Rattle.voter.proofs.Voter.value.Statement.{statement}

@@ -1,5 +1,6 @@
-use Rattle.voter.specs.Voting.{votedBy}
-use Rattle.voter.specs.Voting.{voted}
+-- `voter::Voter::vote` meets its contract: each arm is a line of the rule.
+-- Assumes nothing.
+use Rattle.voter.specs.Voting.{voted, votedBy}
 use borrow.Author.Needs.{needs}
 use Rattle.voter.proofs.Voter.vote.Statement.{statement}
 use Rattle.voter.proofs.Voter.vote.Tie as tie
