@@ -20,6 +20,7 @@ use Rattle.orders.specs.declared.Order.{Order}
 use Rattle.orders.specs.declared.Orders.{Orders}
 use Rattle.orders.specs.declared.Wanted.{Wanted}
 use Rattle.orders.specs.Timing.{order, grownAge, grown, allGrown, switched, areClosed, wantedOf, directed, offTogether, generalOf, ordersOf}
+use Rattle.orders.proofs.Laws.{on-is-wanted, needed-keeps-general}
 use Rattle.monitors.specs.declared.Sight.{Sight}
 use Rattle.controller.specs.declared.Core.{Core}
 use Rattle.controller.specs.Votes.{seenOf}
@@ -38,14 +39,7 @@ since-aged : (turned : Bool) (elapsed age : ℕ) → cond turned 0 (grownAge ela
 since-aged true elapsed age = zero-le
 since-aged false elapsed age = grown-aged elapsed age
 
--- ---- A switched order is on or off as it was told, and no older than before.
-
-switched-as-told : (told on : Bool) (age : ℕ) → switched told (order on age) .on ≡ told
-unfolding switched
-switched-as-told true true age = refl
-switched-as-told true false age = refl
-switched-as-told false true age = refl
-switched-as-told false false age = refl
+-- ---- A switched order is no older than before.
 
 switched-aged : (told on : Bool) (age : ℕ) → age ≤ 60000 → switched told (order on age) .age ≤ 60000
 unfolding switched
@@ -54,29 +48,18 @@ switched-aged true false age h = zero-le
 switched-aged false true age h = zero-le
 switched-aged false false age h = h
 
--- ---- General_EV is on where it is needed; one of the four is on only where it is wanted.
-
-needed-is-on : (needed stops on : Bool) (age : ℕ) → T needed → T (generalOf needed stops (order on age) .on)
-unfolding generalOf switched
-needed-is-on true stops true age h = tt
-needed-is-on true stops false age h = tt
-needed-is-on false stops on age h = absurd h
+-- ---- General_EV, and one of the four.
 
 general-aged : (elapsed : ℕ) (needed stops : Bool) (o : Order) → generalOf needed stops (grown elapsed o) .age ≤ 60000
 unfolding generalOf grown
 general-aged elapsed needed stops o = switched-aged _ (o .on) (grownAge elapsed (o .age)) (grown-aged elapsed (o .age))
 
-on-is-wanted : (wanted : Bool) (general opposite : Order) (on : Bool) (age : ℕ) → T (directed wanted general opposite (order on age) .on) → T wanted
-unfolding directed
-on-is-wanted true general opposite on age h = tt
-on-is-wanted false general opposite on age h = subst T (switched-as-told false on age) h
-
 sound-order : (elapsed : ℕ) (wanted needed stops : Bool) (general opposite o : Order) → (T wanted → T needed) → SoundOrder wanted (generalOf needed stops general) (directed wanted general opposite (grown elapsed o))
 unfolding grown directed
 sound-order elapsed wanted needed stops general opposite o implies =
     record {
-      isWanted = on-is-wanted wanted general opposite (o .on) (grownAge elapsed (o .age));
-      hasGeneral = λ h. needed-is-on needed stops (general .on) (general .age) (implies (on-is-wanted wanted general opposite (o .on) (grownAge elapsed (o .age)) h));
+      isWanted = on-is-wanted wanted general opposite (grown elapsed o);
+      hasGeneral = λ h. needed-keeps-general needed stops general (implies (on-is-wanted wanted general opposite (grown elapsed o) h));
       aged = switched-aged _ (o .on) (grownAge elapsed (o .age)) (grown-aged elapsed (o .age));
     }
 
@@ -153,7 +136,7 @@ orders-sound elapsed since cause p os m aged =
       opens = sound-order elapsed (wanted .opens) (needed p red) stops (before .general) (before .closes) (os .opens) (λ w. needed-at p red Opening (open-says p red w .0) tt (open-says p red w .1));
       retracts = sound-order elapsed (wanted .retracts) (needed p red) stops (before .general) (before .extends) (os .retracts) (λ w. moving-needs p red Retracting m (retract-says p red w .0) tt (retract-says p red w .1));
       extends = sound-order elapsed (wanted .extends) (needed p red) stops (before .general) (before .retracts) (os .extends) (λ w. moving-needs p red Extending m (extend-says p red w .0) tt (extend-says p red w .1));
-      openHasGeneral = needed-is-on (needed p red) stops (before .general .on) (before .general .age);
+      openHasGeneral = needed-keeps-general (needed p red) stops (before .general);
       generalAged = general-aged elapsed (needed p red) stops (os .general);
       handleAged = aged;
     }

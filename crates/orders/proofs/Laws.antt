@@ -35,6 +35,12 @@ starts-after-its-waits wanted general opposite o off h =
     starts wanted (o .on) (onFor 200 general) (offFor 100 opposite) off
     (subst T (switched-on (wanted && (o .on || onFor 200 general && offFor 100 opposite)) o) h)
 
+-- One of the four is on only where it is wanted.
+pub on-is-wanted : (wanted : Bool) (general opposite o : Order) → T (directed wanted general opposite o .on) → T wanted
+unfolding directed
+on-is-wanted true general opposite o h = tt
+on-is-wanted false general opposite o h = subst T (switched-on false o) h
+
 -- An unwanted one stops at once.
 pub unwanted-stops : (general opposite o : Order) → directed false general opposite o .on ≡ false
 unfolding directed
@@ -45,7 +51,8 @@ needed-on true stops = tt
 needed-on false stops = tt
 
 -- General_EV is on after every step in which it is needed: it never stops while doors are not CLOSED without an anomaly.
-pub needed-keeps-general : (stops : Bool) (o : Order) → T (generalOf true stops o .on)
+pub needed-keeps-general : (needed stops : Bool) (o : Order) → T needed → T (generalOf needed stops o .on)
 unfolding generalOf
-needed-keeps-general stops o =
+needed-keeps-general true stops o h =
     subst T (sym (switched-on (cond (o .on) (true || not stops) true) o)) (needed-on (o .on) stops)
+needed-keeps-general false stops o h = absurd h

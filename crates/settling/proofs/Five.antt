@@ -5,7 +5,6 @@ use mathlib.Core.Bool.{Bool, true, false, not}
 use mathlib.Core.Path.{_≡_, refl}
 use Prim.Native.Nat.{ℕ}
 use lib.Dec.{T, T-not}
-use mir.Facts.{and-yes}
 use Rattle.sequence.specs.declared.Aim.{Aim}
 use Rattle.sequence.specs.declared.Aim.the-variants.{ToRetracted, ToExtended}
 use Rattle.orders.specs.declared.Order.{Order}
@@ -25,6 +24,7 @@ use Rattle.orders.specs.Timing.{
   generalOf,
   ordersOf,
 }
+use Rattle.orders.proofs.Laws.{on-is-wanted, needed-keeps-general}
 use Rattle.laws.proofs.Kept.{by-cases}
 use Rattle.settling.proofs.Phases.{Phase, doorsIn, at}
 use Rattle.settling.proofs.Phases.Phase.{opening, opened, underWay, arrived, closing, closed}
@@ -112,32 +112,11 @@ pub record Standing (phase : Phase) (f : Five) : Type 0 where
   pub towards : T (f .towards .on) → T (wantsTowards phase)
   pub against : T (f .against .on) → ⊥
 
-switched-on : (to on : Bool) (age : ℕ) → switched to (order on age) .on ≡ to
-unfolding switched
-switched-on true true age = refl
-switched-on true false age = refl
-switched-on false true age = refl
-switched-on false false age = refl
-
-on-is-wanted : (wanted : Bool) (g p o : Order) → T (directed wanted g p o .on) → T wanted
-unfolding directed
-on-is-wanted wanted g p o h = and-yes wanted _ (rw (switched-on _ (o .on) (o .age)) at h) .0
-
-pub unwanted-is-off : (g p o : Order) → directed false g p o .on ≡ false
-unfolding directed
-unwanted-is-off g p o = switched-on false (o .on) (o .age)
-
-needed-is-on : (needed stops on : Bool) (age : ℕ) → T needed → T (generalOf needed stops (order on age) .on)
-unfolding generalOf switched
-needed-is-on true stops true age h = tt
-needed-is-on true stops false age h = tt
-needed-is-on false stops on age h = absurd h
-
 pub stands : (elapsed : ℕ) (stops : Bool) (phase : Phase) (f : Five) → Standing phase (stepped elapsed stops phase f)
 unfolding grown
 stands elapsed stops phase f =
     record {
-      general = needed-is-on (not (isOver phase)) stops (f .general .on) (grownAge elapsed (f .general .age));
+      general = needed-keeps-general (not (isOver phase)) stops (grown elapsed (f .general));
       opens = on-is-wanted (wantsOpens phase) _ _ _;
       closes = on-is-wanted (wantsCloses phase) _ _ _;
       towards = on-is-wanted (wantsTowards phase) _ _ _;

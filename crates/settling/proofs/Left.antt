@@ -26,7 +26,8 @@ use Rattle.settling.proofs.Waits.{
 }
 use Rattle.settling.proofs.Phases.{Phase, seenThere, onward}
 use Rattle.settling.proofs.Phases.Phase.{opening, opened, underWay, arrived, closing, closed}
-use Rattle.settling.proofs.Five.{Five, isOver, stepped, Standing, unwanted-is-off, general-age, off-age}
+use Rattle.orders.proofs.Laws.{unwanted-stops}
+use Rattle.settling.proofs.Five.{Five, isOver, stepped, Standing, general-age, off-age}
 
 -- Until doors are open, until gears are there, and until doors are closed, with the order for it on or off.
 abbrev opensLeft : ℕ → Five → ℕ
@@ -110,7 +111,7 @@ pub record InTime (elapsed : ℕ) (aim : Aim) (seen : Seen) (f : Five) : Type 0 
 unwanted-work :
     (limit top : ℕ) (g p o : Order) (lacks next : ℕ) →
     work limit top (directed false g p o) lacks next ≡ lacks + limit + (top + limit)
-unwanted-work limit top g p o lacks next = rw (unwanted-is-off g p o)
+unwanted-work limit top g p o lacks next = rw (unwanted-stops g p o)
 
 then : (elapsed w w′ ahead : ℕ) → elapsed + w′ ≤ w → elapsed + (w′ + ahead) ≤ w + ahead
 then elapsed w w′ ahead h = omega arith
