@@ -117,6 +117,7 @@ impl Core {
 }
 
 impl State {
+    // Ages grow by what has elapsed, and the stamp is the last accepted one.
     fn ages(self, stamp: u32) -> Self
         ensures { λ r. ⌜ r ≡ agesStage stamp self ⌝ }
     {
@@ -128,6 +129,7 @@ impl State {
         }
     }
 
+    // Every sensor votes; the handle's age becomes 0 where the vote changed it.
     fn vote(self, sample: &[u8]) -> Self
         requires { ⌜ length (now sample) ≡ 54 ⌝ }
         ensures { λ r. ⌜ r ≡ voteStage (now (sample .entry)) self ⌝ }
@@ -142,6 +144,7 @@ impl State {
         }
     }
 
+    // The monitors look at the new votes.
     fn monitors(self) -> Self
         ensures { λ r. ⌜ r ≡ monitorsStage self ⌝ }
     {
@@ -153,6 +156,7 @@ impl State {
         }
     }
 
+    // The sequence moves by the new votes.
     fn sequence(self) -> Self
         ensures { λ r. ⌜ r ≡ sequenceStage self ⌝ }
     {
@@ -165,6 +169,7 @@ impl State {
         }
     }
 
+    // The orders follow the new place and anomaly.
     fn orders(self) -> Self
         ensures { λ r. ⌜ r ≡ ordersStage self ⌝ }
     {

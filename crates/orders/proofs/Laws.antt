@@ -33,7 +33,7 @@ pub starts-after-its-waits : (wanted : Bool) (general opposite o : Order) → T 
 unfolding directed
 starts-after-its-waits wanted general opposite o off h =
     starts wanted (o .on) (onFor 200 general) (offFor 100 opposite) off
-    (subst T (switched-on (wanted && (o .on || onFor 200 general && offFor 100 opposite)) o) h)
+    (rw (switched-on _ o) at h)
 
 -- One of the four is on only where it is wanted.
 pub on-is-wanted : (wanted : Bool) (general opposite o : Order) → T (directed wanted general opposite o .on) → T wanted
