@@ -1,4 +1,4 @@
-//! A second, independent implementation of document 01, for differential tests.
+//! A second, independent implementation of document 01 with change request K1, for differential tests.
 #![forbid(unsafe_code)]
 
 pub mod gen;

@@ -1,4 +1,4 @@
-//! The controller: "One accepted step, in this order" of document 01.
+//! The controller: "One accepted step, in this order" of document 01, with the lamps of K1.
 //!
 //! Sensors are bits of a `u32` in the order of the sample, one word per channel; orders are bits
 //! of a `u8` in the order of the output row. An age is not stored: `since` holds the time of the
@@ -28,6 +28,17 @@ const FOUR: u8 = 0b11110;
 const OPPOSITE: [usize; 5] = [GENERAL, OPEN, CLOSE, EXTEND, RETRACT];
 const SWAPPED: [usize; 5] = [GENERAL, EXTEND, RETRACT, OPEN, CLOSE]; // a fault
 
+/// The three sensors of a kind in the low bits: front, left, right.
+fn three(held: u32, sensors: u32) -> u32 {
+    (held & sensors) >> sensors.trailing_zeros()
+}
+const ALL: u32 = 0b111;
+
+/// What two channels or more say.
+fn majority([a, b, c]: [u32; 3]) -> u32 {
+    a & b | a & c | b & c
+}
+
 #[derive(Clone, Copy, PartialEq, Eq, Debug)]
 #[rustfmt::skip]
 pub enum Doors { Closed, Opening, Open, Closing }
@@ -49,11 +60,19 @@ pub struct Rig {
     pub doors: Doors,
     pub gears: Gears,
     pub cause: u8,
+    /// What a fault makes the lamps read in place of `held`.
+    aside: u32,
 }
 
 impl Rig {
-    /// A fresh start.
+    /// A fresh start: the handle is held down, the gears extended, the doors closed.
     pub fn fresh(r: &Rules, stamp: u32) -> Rig {
+        let held = match r.slip {
+            Slip::FreshHandleUp => GEAR_EXTENDED | DOOR_CLOSED,
+            Slip::FreshGears0 => HANDLE | DOOR_CLOSED,
+            Slip::FreshDoors0 => HANDLE | GEAR_EXTENDED,
+            _ => HANDLE | GEAR_EXTENDED | DOOR_CLOSED,
+        };
         Rig {
             stamp,
             now: if r.is(Slip::FreshAge0) { 0 } else { 60_000 },
@@ -61,10 +80,11 @@ impl Rig {
             on: 0,
             ok: [SENSORS; 3],
             invalid: 0,
-            held: if r.is(Slip::FreshHandleUp) { 0 } else { HANDLE },
+            held,
             doors: Doors::Closed,
             gears: Gears::Extended,
             cause: 0,
+            aside: held,
         }
     }
 
@@ -98,6 +118,7 @@ impl Rig {
                 Slip::StampMovedOn3 if elapsed == 0 => self.stamp = stamp,
                 Slip::AgesGrowRefused => self.now += elapsed,
                 Slip::VoteRefused => self.vote(r, sample),
+                Slip::LampsRefused => self.aside = majority(sample),
                 _ => {}
             }
             return if (elapsed == 0) != r.is(Slip::CodesSwapped) { 3 } else { 4 };
@@ -110,9 +131,9 @@ impl Rig {
 
         // Voting, then the monitors over the orders as they stood before.
         let first = r.is(Slip::MonitorsFirst).then(|| self.monitors(r, self.now));
-        let handle = self.held & HANDLE;
+        let before = self.held;
         self.vote(r, sample);
-        let moved = self.held & HANDLE != handle && !r.is(Slip::HandleAgeKept);
+        let moved = (self.held ^ before) & HANDLE != 0 && !r.is(Slip::HandleAgeKept);
         if moved && !r.is(Slip::HandleAgeLate) {
             self.since[HANDLE_CLOCK] = self.now;
         }
@@ -135,6 +156,16 @@ impl Rig {
         }
 
         self.orders(r, if r.is(Slip::WaitsOldAge) { old } else { self.now });
+
+        // Lights are read off the state; this is for faults only.
+        self.aside = match r.slip {
+            Slip::LampsBeforeVote => before,
+            Slip::LampsFrozenRed if red_before => self.aside,
+            Slip::LampsLatchingKept if self.cause != 0 && !red_before => self.aside,
+            Slip::LampsChannel1 => sample[0],
+            Slip::LampsMajority => majority(sample),
+            _ => self.held,
+        };
         0
     }
 
@@ -143,7 +174,7 @@ impl Rig {
     pub fn vote(&mut self, r: &Rules, [a, b, c]: [u32; 3]) {
         let [ok_a, ok_b, ok_c] = self.ok;
         let three = ok_a & ok_b & ok_c;
-        let majority = if r.is(Slip::FirstChannel) { a } else { a & b | a & c | b & c };
+        let majority = if r.is(Slip::FirstChannel) { a } else { majority([a, b, c]) };
         // With two valid channels `x` and `y` are those two.
         let x = ok_a & a | !ok_a & b;
         let y = ok_c & c | !ok_c & b;
@@ -278,16 +309,68 @@ impl Rig {
         self.on = after;
     }
 
+    /// The values that the lamps are read from: the voted ones.
+    #[inline]
+    fn lamp_values(&self, r: &Rules) -> u32 {
+        use Slip::*;
+        match r.slip {
+            LampsBeforeVote | LampsFrozenRed | LampsLatchingKept | LampsChannel1 | LampsMajority
+            | LampsRefused => self.aside,
+            LampsInvalid0 => self.held & !self.invalid,
+            LampsInvalid1 => self.held | self.invalid,
+            _ => self.held,
+        }
+    }
+
     /// Lights: green, orange, red. Everything they can depend on is in `self`.
     #[inline]
     pub fn lights(&self, r: &Rules) -> [bool; 3] {
-        use Gears::*;
-        let green = match self.gears {
-            Retracting => r.is(Slip::GreenKept),
-            gears => gears == Extended,
+        use Slip::*;
+        let held = self.lamp_values(r);
+        let (extended, retracted) = (three(held, GEAR_EXTENDED), three(held, GEAR_RETRACTED));
+        let (closed, open) = (three(held, DOOR_CLOSED), three(held, DOOR_OPEN));
+        let red = self.cause != 0;
+        let moving = matches!(self.gears, Gears::Extending | Gears::Retracting);
+        // All three gears extended.
+        let green = match r.slip {
+            GreenSequence => self.gears == Gears::Extended,
+            GreenSomeGear => extended != 0,
+            GreenForgets(gear) => extended | 1 << gear == ALL,
+            GreenNoneRetracted => extended == ALL && retracted == 0,
+            GreenDoorsClosed => extended == ALL && closed == ALL,
+            GreenOffRed => extended == ALL && !red,
+            _ => extended == ALL,
         };
-        let orange = matches!(self.gears, Extending | Retracting)
-            || r.is(Slip::OrangeDoors) && matches!(self.doors, Doors::Opening | Doors::Closing);
-        [green, orange, self.cause != 0 && !r.is(Slip::NoRed)]
+        // Some door not closed.
+        let door = match r.slip {
+            OrangeGearsOnly => false,
+            OrangeDoorSequence => self.doors != Doors::Closed,
+            OrangeAllDoors => closed == 0,
+            OrangeDoorOpen => open != 0,
+            OrangeDoorOpenToo => closed != ALL || open != 0,
+            OrangeDoorBetween => closed | open != ALL,
+            OrangeForgetsDoor(door) => closed | 1 << door != ALL,
+            _ => closed != ALL,
+        };
+        // Some gear neither extended nor retracted.
+        let gear = match r.slip {
+            OrangeDoorsOnly => false,
+            OrangeGearSequence => moving,
+            OrangeGearsTogether => extended != ALL && retracted != ALL,
+            OrangeAllGears => extended | retracted == 0,
+            OrangeGearBoth => extended ^ retracted != ALL,
+            OrangeForgetsGear(gear) => extended | retracted | 1 << gear != ALL,
+            OrangePairs(by) => (extended | (retracted | retracted << 3) >> by) & ALL != ALL,
+            _ => extended | retracted != ALL,
+        };
+        let orange = match r.slip {
+            OrangeSequence => moving,
+            OrangeDoorAndGear => door && gear,
+            OrangeOffGreen => (door || gear) && !green,
+            OrangeNotGreen => door || gear || !green,
+            OrangeOffRed => (door || gear) && !red,
+            _ => door || gear,
+        };
+        [green, orange, red && !r.is(NoRed)]
     }
 }

@@ -1,7 +1,8 @@
 //! The numbers of document 01 and, for tests, the faults that can be planted.
-//! `Rules::default()` is document 01; every fault moves one number or makes one `Slip`.
+//! `Rules::default()` is document 01 with K1's lamps; every fault moves one number or makes one `Slip`.
 
-/// One way of getting document 01 wrong that is not a moved number.
+/// One way of getting document 01 or K1 wrong that is not a moved number. A number in it is a unit:
+/// 0 front, 1 left, 2 right.
 #[derive(Clone, Copy, PartialEq, Eq, Debug)]
 #[rustfmt::skip]
 pub enum Slip {
@@ -9,11 +10,11 @@ pub enum Slip {
     // The sample and its stamp
     StampMoved, StampNotRound, CodesSwapped, AgesGrowRefused, VoteRefused, Row0Used,
     // A fresh start
-    FreshAge0, FreshHandleUp,
+    FreshAge0, FreshHandleUp, FreshGears0, FreshDoors0,
     // Ages
     AgesGoRound, StartKeepsAge, StopKeepsAge, HandleAgeKept, HandleAgeLate,
     // Voting
-    LetBack, NeverStruck, FirstChannel, TwoDifferAgree, TwoDifferNoRed,
+    LetBack, NeverStruck, FirstChannel, TwoDifferAgree, TwoDifferNoRed, InvalidTakesNew, InvalidBack,
     // Monitors
     MonitorsFirst, MonitorsOldAge, NotLatched, Cause11NoEnd,
     // Sequence
@@ -23,14 +24,24 @@ pub enum Slip {
     OppositeUnchecked, OppositeAgeOnly, OppositeAtStop, OppositesSwapped, WaitsOldAge,
     GeneralOnUnchecked, OrdersKeptRed, GeneralKeptRed, GeneralWaitsNone, GeneralOnlyClosed,
     // Lights
-    GreenKept, OrangeDoors, NoRed,
+    GreenSequence, GreenSomeGear, GreenForgets(u8), GreenNoneRetracted, GreenDoorsClosed, GreenOffRed,
+    OrangeSequence, OrangeGearSequence, OrangeDoorSequence, OrangeDoorsOnly, OrangeGearsOnly,
+    OrangeDoorAndGear, OrangeOffGreen, OrangeNotGreen, OrangeOffRed,
+    OrangeAllDoors, OrangeDoorOpen, OrangeDoorOpenToo, OrangeDoorBetween, OrangeForgetsDoor(u8),
+    OrangeGearsTogether, OrangeAllGears, OrangeGearBoth, OrangeForgetsGear(u8),
+    /// A gear's extended with the retracted of the one that is so many further.
+    OrangePairs(u8),
+    NoRed,
+    // What the lamps read
+    LampsBeforeVote, LampsFrozenRed, LampsLatchingKept, LampsChannel1, LampsMajority, LampsRefused,
+    LampsInvalid0, LampsInvalid1,
     // The trace and its program
     FiveBeforeSix, SevenBeforeFive, SevenBeforeSix, LabelUnchecked, LabelKeptOnRefusal,
     LabelRound, StampRound, LeadingZero, PlusSign, EmptyNumber, DigitUnchecked, ExtraField,
     LfEndsRow, CrDropped, CrCrLf, EmptyLastRow, LastRowDropped, LastCrLfCopied,
     HeaderUnchecked, HeaderLong5, NoHeaderSilent, LineIsLabel, GoesOn, RefusedEmpty,
-    // Not visible in the output rows of document 01
-    InvalidTakesNew, InvalidBack, HighestCause, StampMovedOn3,
+    // Not visible in the output rows
+    HighestCause, StampMovedOn3,
 }
 
 #[derive(Clone, Debug)]
@@ -89,6 +100,8 @@ pub fn faults() -> Vec<(String, Rules)> {
         ("row_0_sample_used", Row0Used),
         ("fresh_ages_0", FreshAge0),
         ("fresh_handle_up", FreshHandleUp),
+        ("fresh_gear_sensors_0", FreshGears0),
+        ("fresh_door_sensors_0", FreshDoors0),
         ("ages_go_round_at_60000", AgesGoRound),
         ("start_keeps_age", StartKeepsAge),
         ("stop_keeps_age", StopKeepsAge),
@@ -99,6 +112,8 @@ pub fn faults() -> Vec<(String, Rules)> {
         ("first_channel_taken", FirstChannel),
         ("two_differ_first_taken", TwoDifferAgree),
         ("invalid_sensor_no_anomaly", TwoDifferNoRed),
+        ("invalid_sensor_takes_new_value", InvalidTakesNew),
+        ("invalid_sensor_let_back", InvalidBack),
         ("monitors_before_vote", MonitorsFirst),
         ("monitors_use_old_ages", MonitorsOldAge),
         ("anomaly_not_latched", NotLatched),
@@ -123,9 +138,47 @@ pub fn faults() -> Vec<(String, Rules)> {
         ("general_kept_on_anomaly", GeneralKeptRed),
         ("general_stops_without_wait", GeneralWaitsNone),
         ("general_stop_forgets_gear_orders", GeneralOnlyClosed),
-        ("green_until_retracted", GreenKept),
-        ("orange_while_doors_move", OrangeDoors),
+        ("green_from_sequence", GreenSequence),
+        ("green_with_some_gear_extended", GreenSomeGear),
+        ("green_forgets_front_gear", GreenForgets(0)),
+        ("green_forgets_left_gear", GreenForgets(1)),
+        ("green_forgets_right_gear", GreenForgets(2)),
+        ("green_only_with_none_retracted", GreenNoneRetracted),
+        ("green_only_with_doors_closed", GreenDoorsClosed),
+        ("green_off_with_anomaly", GreenOffRed),
+        ("orange_from_sequence", OrangeSequence),
+        ("orange_gears_from_sequence", OrangeGearSequence),
+        ("orange_doors_from_sequence", OrangeDoorSequence),
+        ("orange_from_doors_only", OrangeDoorsOnly),
+        ("orange_from_gears_only", OrangeGearsOnly),
+        ("orange_only_with_door_and_gear", OrangeDoorAndGear),
+        ("orange_off_with_green", OrangeOffGreen),
+        ("orange_where_not_green", OrangeNotGreen),
+        ("orange_off_with_anomaly", OrangeOffRed),
+        ("orange_only_with_no_door_closed", OrangeAllDoors),
+        ("orange_from_door_open", OrangeDoorOpen),
+        ("orange_from_door_open_too", OrangeDoorOpenToo),
+        ("orange_only_with_door_between", OrangeDoorBetween),
+        ("orange_forgets_front_door", OrangeForgetsDoor(0)),
+        ("orange_forgets_left_door", OrangeForgetsDoor(1)),
+        ("orange_forgets_right_door", OrangeForgetsDoor(2)),
+        ("orange_unless_gears_all_at_one_end", OrangeGearsTogether),
+        ("orange_only_with_no_gear_at_an_end", OrangeAllGears),
+        ("orange_with_gear_at_both_ends", OrangeGearBoth),
+        ("orange_forgets_front_gear", OrangeForgetsGear(0)),
+        ("orange_forgets_left_gear", OrangeForgetsGear(1)),
+        ("orange_forgets_right_gear", OrangeForgetsGear(2)),
+        ("orange_pairs_next_gear", OrangePairs(1)),
+        ("orange_pairs_gear_after_next", OrangePairs(2)),
         ("red_never_lit", NoRed),
+        ("lamps_before_vote", LampsBeforeVote),
+        ("lamps_frozen_with_anomaly", LampsFrozenRed),
+        ("lamps_kept_in_latching_step", LampsLatchingKept),
+        ("lamps_from_channel_1", LampsChannel1),
+        ("lamps_from_raw_majority", LampsMajority),
+        ("lamps_from_refused_sample", LampsRefused),
+        ("lamps_take_invalid_as_0", LampsInvalid0),
+        ("lamps_take_invalid_as_1", LampsInvalid1),
         ("row_5_before_6", FiveBeforeSix),
         ("row_7_before_5", SevenBeforeFive),
         ("row_7_before_6", SevenBeforeSix),
@@ -189,16 +242,11 @@ pub fn faults() -> Vec<(String, Rules)> {
     all
 }
 
-/// Faults that no output row of document 01 can show: a sensor that becomes invalid latches the
-/// anomaly in that step and nothing that depends on its value moves again; the cause is not
-/// written; no threshold lies at the cap; on a refusal 3 both stamps are equal.
+/// Faults that no output row can show: the cause is not written; on a refusal 3 both stamps are
+/// equal; no threshold lies at the cap.
 pub fn unseen() -> Vec<(String, Rules)> {
-    let mut all = slips(&[
-        ("invalid_sensor_takes_new_value", Slip::InvalidTakesNew),
-        ("invalid_sensor_let_back", Slip::InvalidBack),
-        ("highest_cause_kept", Slip::HighestCause),
-        ("stamp_moved_on_3", Slip::StampMovedOn3),
-    ]);
+    let mut all =
+        slips(&[("highest_cause_kept", Slip::HighestCause), ("stamp_moved_on_3", Slip::StampMovedOn3)]);
     for age_cap in [59_999, 60_001, 21_500] {
         all.push((format!("age_cap_{age_cap}"), Rules { age_cap, ..Rules::default() }));
     }

@@ -7,6 +7,8 @@ use crate::trace::HEADER;
 
 const NEVER: u64 = u64::MAX;
 const AT_REST: u32 = HANDLE | GEAR_EXTENDED | DOOR_CLOSED;
+/// Gears up with the handle down: from a fresh start nothing moves, whatever doors and gears say.
+const UP_AT_REST: u32 = HANDLE | GEAR_RETRACTED | DOOR_CLOSED;
 const OPEN_ALL: Travel = Travel { leave: 100, arrive: 300 };
 
 /// A script with the handle up and the named order just started.
@@ -116,6 +118,22 @@ fn vote(sensor: u32, then: [bool; 3]) -> Vec<u8> {
     tape.after(10, rest);
     tape.after(10, odd([true, true, true]));
     tape.text
+}
+
+/// From a fresh start, samples on which the channels agree. No order is ever on with the handle
+/// down, so doors and gears can be seen anywhere and no monitor minds.
+fn samples(seen: &[u32]) -> Vec<u8> {
+    let mut tape = Tape::new(0, same(AT_REST));
+    for &seen in seen {
+        tape.after(50, same(seen));
+    }
+    assert!(!tape.red() && tape.rig.on == 0);
+    tape.text
+}
+
+/// One unit of the three sensors of a kind.
+fn one(sensors: u32, unit: u32) -> u32 {
+    1 << (sensors.trailing_zeros() + unit)
 }
 
 /// Name and trace of every stored vector.
@@ -351,6 +369,108 @@ pub fn vectors() -> Vec<(String, Vec<u8>)> {
         for _ in 0..12 {
             tape.after(100, [rest, rest, rest]);
         }
+        tape.text
+    });
+
+    // Lamps.
+    add("lamps_green_and_orange", {
+        // The doors leave while the gears are extended; the gears leave later.
+        let mut s = handle_up();
+        s.until(|rig| rig.gears == Gears::Retracting);
+        s.step(50);
+        s.step(50);
+        s.tape.text
+    });
+    add("lamps_neither", {
+        // Each gear at one end, not all at the same.
+        let mut seen = vec![AT_REST, UP_AT_REST];
+        for gear in 0..3 {
+            let turned = one(GEAR_EXTENDED, gear) | one(GEAR_RETRACTED, gear);
+            seen.extend([AT_REST ^ turned, UP_AT_REST ^ turned]);
+        }
+        seen.push(AT_REST);
+        samples(&seen)
+    });
+    add("lamps_each_gear", {
+        let mut seen = vec![AT_REST];
+        for gear in 0..3 {
+            let (extended, retracted) = (one(GEAR_EXTENDED, gear), one(GEAR_RETRACTED, gear));
+            // At neither end, then at both; the others extended, then retracted.
+            seen.extend([AT_REST ^ extended, AT_REST ^ retracted]);
+            seen.extend([UP_AT_REST ^ retracted, UP_AT_REST ^ extended]);
+        }
+        seen.extend((0..3).map(|door| AT_REST ^ one(DOOR_CLOSED, door)));
+        seen.extend([AT_REST ^ GEAR_EXTENDED, AT_REST ^ GEAR_RETRACTED, AT_REST ^ DOOR_CLOSED, AT_REST]);
+        samples(&seen)
+    });
+    add("lamps_door_open_unread", {
+        let mut seen = vec![AT_REST];
+        for door in 0..3 {
+            let (closed, open) = (one(DOOR_CLOSED, door), one(DOOR_OPEN, door));
+            // Open, then open and closed at once.
+            seen.extend([AT_REST ^ closed ^ open, AT_REST ^ open]);
+        }
+        seen.extend([AT_REST ^ DOOR_CLOSED ^ DOOR_OPEN, AT_REST ^ DOOR_OPEN, AT_REST]);
+        samples(&seen)
+    });
+    add("lamps_one_channel_odd", {
+        // Each channel is struck for one gear and one door and says the opposite from then on.
+        let mut tape = Tape::new(0, same(AT_REST));
+        let odd = [0, 1, 2].map(|n| one(GEAR_EXTENDED, n) | one(DOOR_CLOSED, (n + 1) % 3));
+        for seen in [AT_REST, AT_REST, UP_AT_REST ^ DOOR_CLOSED, UP_AT_REST, AT_REST] {
+            tape.after(50, odd.map(|odd| seen ^ odd));
+        }
+        assert!(!tape.red());
+        tape.text
+    });
+    add("lamps_invalid_sensor", {
+        // The front gear is last voted extended; becoming invalid latches the anomaly.
+        let mut tape = Tape::new(0, same(AT_REST));
+        let front = one(GEAR_EXTENDED, 0);
+        tape.after(50, [AT_REST, AT_REST, AT_REST ^ front]);
+        tape.after(50, [AT_REST, AT_REST ^ front, AT_REST ^ front]);
+        assert!(tape.red());
+        // All its channels say otherwise; the other sensors count.
+        let others = UP_AT_REST ^ one(GEAR_RETRACTED, 0);
+        for seen in [AT_REST ^ front, AT_REST ^ front, AT_REST ^ GEAR_EXTENDED, others, AT_REST] {
+            tape.after(50, same(seen));
+        }
+        tape.text
+    });
+    add("lamps_with_anomaly", {
+        // The switch is closed for too long in a step in which the doors leave.
+        let mut tape = Tape::new(0, same(AT_REST));
+        tape.after(50, same(AT_REST));
+        tape.after(50, same(AT_REST ^ DOOR_CLOSED | SWITCH));
+        assert!(tape.red());
+        for seen in [AT_REST, UP_AT_REST, AT_REST ^ GEAR_EXTENDED, AT_REST] {
+            tape.after(50, same(seen));
+        }
+        // The left gear's extended is struck, then invalid at 1; its channels change.
+        let left = one(GEAR_EXTENDED, 1);
+        tape.after(50, [AT_REST, AT_REST, AT_REST ^ left]);
+        tape.after(50, [AT_REST ^ left, AT_REST, AT_REST ^ left]);
+        tape.after(50, same(AT_REST ^ left));
+        tape.after(50, same(AT_REST ^ left));
+        // The front door's closed is struck, then invalid at 0; its channels change.
+        let front = one(DOOR_CLOSED, 0);
+        tape.after(50, [AT_REST, AT_REST ^ front, AT_REST ^ front]);
+        tape.after(50, [AT_REST, AT_REST, AT_REST ^ front]);
+        for seen in [AT_REST, AT_REST, UP_AT_REST, AT_REST] {
+            tape.after(50, same(seen));
+        }
+        tape.text
+    });
+    add("lamps_refused_sample", {
+        // Before the first accepted step and after it, a refused sample lights nothing.
+        let mut tape = Tape::new(4_294_967_250, same(0));
+        tape.after(0, same(0));
+        tape.after(101, same(0));
+        tape.after(100, same(AT_REST ^ DOOR_CLOSED));
+        tape.after(0, same(UP_AT_REST));
+        tape.after(101, same(UP_AT_REST));
+        tape.after(100, same(AT_REST));
+        assert!(!tape.red());
         tape.text
     });
 

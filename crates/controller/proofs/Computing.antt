@@ -25,7 +25,7 @@ use Rattle.controller.specs.Stages.{
   accepted,
 }
 use Rattle.controller.specs.Steps.{someOverOne, refusalOf, stepOf}
-use Rattle.controller.specs.Lamps.{lightsOf, shownOf}
+use Rattle.controller.specs.Lamps.{greenOf, neitherAt, orangeOf, lightsOf, shownOf}
 use Rattle.controller.specs.SessionS.{agreeing, sample, answers, lineOf}
 
 unfoldable pub rules : Unit {0}
@@ -38,6 +38,6 @@ unfolding
     offLong freshOrders freshCore freshVoters freshOf
     anomaly coreAges coreHandle coreMonitors coreSequence coreOrders coreStep
     elapsedOf agesStage turned voteStage monitorsStage sequenceStage ordersStage accepted
-    someOverOne refusalOf stepOf lightsOf shownOf
+    someOverOne refusalOf stepOf greenOf neitherAt orangeOf lightsOf shownOf
     agreeing sample answers lineOf some eachFrom
 rules = tt

@@ -1,3 +1,6 @@
 pub mod Computing
 pub mod Once
+pub mod Refusals
+pub mod LampLaws
+pub mod OnlyLamps
 pub mod Worked

@@ -1,4 +1,4 @@
--- Session S of document 01 comes out as it prints it: the rules compute.
+-- Session S of document 01 comes out as it prints it, with the lamps of request K1: the rules compute.
 -- Assumes nothing.
 use mathlib.Core.List.{map}
 use mathlib.Core.Path.{_≡_, refl}

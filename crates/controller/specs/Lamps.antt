@@ -1,35 +1,32 @@
--- Document 01, "Lights" (001), and what an output row shows of a state.
+-- Document 01, "Lights", as request K1 has it: green and orange are read from the voted sensors. And what an output row shows of
+-- a state.
 -- Assumes nothing.
-use mathlib.Core.Bool.{Bool, true, false}
+use mathlib.Core.Bool.{Bool, not, _&&_, _||_}
 use mathlib.Core.List.{List, [], _∷_, map}
-use Prim.Native.Nat.{ℕ}
-use Rattle.sequence.specs.declared.Gears.{Gears}
-use Rattle.sequence.specs.declared.Gears.the-variants.{Retracted, Extending, Extended, Retracting}
+use Prim.Native.Nat.{ℕ, _+_}
+use Rattle.voter.specs.declared.Voter.{Voter}
 use Rattle.controller.specs.declared.Core.{Core}
 use Rattle.controller.specs.declared.State.{State}
 use Rattle.controller.specs.declared.Lights.{Lights}
 use Rattle.controller.specs.declared.Shown.{Shown}
-use Rattle.controller.specs.Votes.{sensor}
+use Rattle.controller.specs.Votes.{gearExtended, gearRetracted, doorClosed, sensor, threeFrom}
 use Rattle.controller.specs.Stages.{anomaly}
 
--- Green: gears EXTENDED.
-abbrev pub greenAt : Gears → Bool
-greenAt Retracted = false
-greenAt Extending = false
-greenAt Extended = true
-greenAt Retracting = false
+-- Green: all three gears voted extended.
+unfoldable pub greenOf : List Voter → Bool
+greenOf vs = threeFrom gearExtended vs .all
 
--- Orange: gears EXTENDING or RETRACTING.
-abbrev pub orangeAt : Gears → Bool
-orangeAt Retracted = false
-orangeAt Extending = true
-orangeAt Extended = false
-orangeAt Retracting = true
+-- A gear (0 front, 1 left, 2 right) voted neither extended nor retracted.
+unfoldable pub neitherAt : ℕ → List Voter → Bool
+neitherAt gear vs = not (sensor (gearExtended + gear) vs) && not (sensor (gearRetracted + gear) vs)
+
+-- Orange: some door is not voted closed, or some gear is voted neither extended nor retracted.
+unfoldable pub orangeOf : List Voter → Bool
+orangeOf vs = not (threeFrom doorClosed vs .all) || neitherAt 0 vs || neitherAt 1 vs || neitherAt 2 vs
 
 -- Red: anomaly.
 unfoldable pub lightsOf : State → Lights
-lightsOf s =
-    record { green = greenAt (s .core .place .gears); orange = orangeAt (s .core .place .gears); red = anomaly (s .core) }
+lightsOf s = record { green = greenOf (s .voters); orange = orangeOf (s .voters); red = anomaly (s .core) }
 
 -- The five orders, doors, gears and the lights.
 unfoldable pub shownOf : State → Shown

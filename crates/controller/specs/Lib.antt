@@ -3,4 +3,7 @@ pub mod Start
 pub mod Stages
 pub mod Steps
 pub mod Lamps
+pub mod BeforeFirst
+pub mod BeforeK1
+pub mod LampCases
 pub mod SessionS

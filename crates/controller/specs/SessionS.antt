@@ -1,4 +1,4 @@
--- Document 01, "Session S", over the rule: its rows, and the output that it must have.
+-- Document 01, "Session S", over the rule: its rows, and the output that it must have, with the lamps of request K1.
 -- Assumes nothing.
 use mathlib.Core.List.{List, [], _∷_, _++_}
 use Prim.Native.Nat.{ℕ}
@@ -66,7 +66,7 @@ lineOf a =
       bit (s .lights .green) ∷ bit (s .lights .orange) ∷ bit (s .lights .red) ∷ [],
     )
 
--- What document 01 prints for rows 1 to 11.
+-- What document 01 prints for rows 1 to 11; green and orange as request K1 has them (rows 6, 7 and 8 differ).
 unfoldable pub printed : List Line
 printed =
     (0, 0 ∷ 0 ∷ 0 ∷ 0 ∷ 0 ∷ [], Closed, Extended, 1 ∷ 0 ∷ 0 ∷ []) ∷
@@ -74,9 +74,9 @@ printed =
     (0, 1 ∷ 0 ∷ 0 ∷ 0 ∷ 0 ∷ [], Opening, Extended, 1 ∷ 0 ∷ 0 ∷ []) ∷
     (0, 1 ∷ 0 ∷ 1 ∷ 0 ∷ 0 ∷ [], Opening, Extended, 1 ∷ 0 ∷ 0 ∷ []) ∷
     (3, 1 ∷ 0 ∷ 1 ∷ 0 ∷ 0 ∷ [], Opening, Extended, 1 ∷ 0 ∷ 0 ∷ []) ∷
-    (0, 1 ∷ 0 ∷ 0 ∷ 0 ∷ 0 ∷ [], Open, Extended, 1 ∷ 0 ∷ 0 ∷ []) ∷
-    (0, 1 ∷ 0 ∷ 0 ∷ 1 ∷ 0 ∷ [], Open, Retracting, 0 ∷ 1 ∷ 0 ∷ []) ∷
-    (4, 1 ∷ 0 ∷ 0 ∷ 1 ∷ 0 ∷ [], Open, Retracting, 0 ∷ 1 ∷ 0 ∷ []) ∷
+    (0, 1 ∷ 0 ∷ 0 ∷ 0 ∷ 0 ∷ [], Open, Extended, 1 ∷ 1 ∷ 0 ∷ []) ∷
+    (0, 1 ∷ 0 ∷ 0 ∷ 1 ∷ 0 ∷ [], Open, Retracting, 1 ∷ 1 ∷ 0 ∷ []) ∷
+    (4, 1 ∷ 0 ∷ 0 ∷ 1 ∷ 0 ∷ [], Open, Retracting, 1 ∷ 1 ∷ 0 ∷ []) ∷
     (0, 1 ∷ 0 ∷ 0 ∷ 0 ∷ 0 ∷ [], Open, Extending, 0 ∷ 1 ∷ 0 ∷ []) ∷
     (0, 1 ∷ 0 ∷ 0 ∷ 0 ∷ 0 ∷ [], Open, Extending, 0 ∷ 1 ∷ 0 ∷ []) ∷
     (0, 1 ∷ 0 ∷ 0 ∷ 0 ∷ 1 ∷ [], Open, Extending, 0 ∷ 1 ∷ 0 ∷ []) ∷

@@ -1,8 +1,9 @@
 -- Document 01, "The sample": a fresh start takes a stamp and gives doors CLOSED, gears EXTENDED, five orders off, no anomaly,
--- all channels valid, handle held down, other sensors held 0, every age 60,000.
+-- all channels valid, handle held down, other sensors held 0, every age 60,000. Request K1: it holds the gear_extended and
+-- door_closed sensors at 1.
 -- Assumes nothing.
 use mathlib.Core.Bool.{true, false}
-use mathlib.Core.List.{List, [], _∷_}
+use mathlib.Core.List.{List, [], _∷_, _++_}
 use Prim.Native.Nat.{ℕ}
 use lib.ListN.{replicate}
 use Rattle.voter.specs.declared.Voter.{Voter}
@@ -28,9 +29,24 @@ freshOrders = record { general = offLong; closes = offLong; opens = offLong; ret
 unfoldable pub freshCore : Core
 freshCore = record { orders = freshOrders; since = 60000; place = place Closed Extended; cause = 0 }
 
--- All channels valid, handle held down, the other seventeen held 0.
+-- All channels valid; handle held down, gear_extended and door_closed held 1, the others held 0. In the sample's order.
 unfoldable pub freshVoters : List Voter
-freshVoters = freshWith true ∷ replicate 17 (freshWith false)
+freshVoters =
+    -- handle, analogical_switch
+    freshWith true ∷ freshWith false ∷
+    -- gear_extended
+    replicate 3 (freshWith true) ++
+    -- gear_retracted
+    replicate 3 (freshWith false) ++
+    -- gear_shock_absorber
+    replicate 3 (freshWith false) ++
+    -- door_closed
+    replicate 3 (freshWith true) ++
+    -- door_open
+    replicate 3 (freshWith false) ++
+    -- circuit_pressurized
+    freshWith false ∷
+    []
 
 unfoldable pub freshOf : ℕ → State
 freshOf stamp = record { stamp = stamp; voters = freshVoters; core = freshCore }

@@ -1,35 +1,34 @@
 // What a state shows: the lights, the fields of an output row, the voted values and the cause (specs/Lamps.antt; document 01,
-// "Lights").
+// "Lights", as request K1 has it).
 ghost use mathlib.Core.Path.{_≡_};
-ghost use Rattle.controller.specs.Lamps.{greenAt, orangeAt, lightsOf, shownOf, valuesOf};
+ghost use Prim.Native.Nat.{_<_};
+ghost use Rattle.controller.specs.Lamps.{greenOf, neitherAt, orangeOf, lightsOf, shownOf, valuesOf};
 use crate::Lights;
 use crate::Shown;
 use crate::State;
 use crate::votes;
-use sequence::Gears;
+use voter::Voter;
 
-// Green: gears EXTENDED.
-fn green(gears: Gears) -> bool
-    ensures { λ r. ⌜ r ≡ greenAt gears ⌝ }
+// Green: all three gears voted extended.
+fn green(voters: [Voter; 18]) -> bool
+    ensures { λ r. ⌜ r ≡ greenOf voters ⌝ }
 {
-    match gears {
-        Gears::Retracted => false,
-        Gears::Extending => false,
-        Gears::Extended => true,
-        Gears::Retracting => false,
-    }
+    votes::all_from(voters, 2)
 }
 
-// Orange: gears EXTENDING or RETRACTING.
-fn orange(gears: Gears) -> bool
-    ensures { λ r. ⌜ r ≡ orangeAt gears ⌝ }
+// Whether a gear (0 front, 1 left, 2 right) is voted neither extended nor retracted.
+fn neither(voters: [Voter; 18], gear: usize) -> bool
+    requires { ⌜ gear < 3 ⌝ }
+    ensures { λ r. ⌜ r ≡ neitherAt gear voters ⌝ }
 {
-    match gears {
-        Gears::Retracted => false,
-        Gears::Extending => true,
-        Gears::Extended => false,
-        Gears::Retracting => true,
-    }
+    !votes::value_at(voters, 2 + gear) & !votes::value_at(voters, 5 + gear)
+}
+
+// Orange: some door is not voted closed, or some gear is voted neither extended nor retracted.
+fn orange(voters: [Voter; 18]) -> bool
+    ensures { λ r. ⌜ r ≡ orangeOf voters ⌝ }
+{
+    !votes::all_from(voters, 11) | neither(voters, 0) | neither(voters, 1) | neither(voters, 2)
 }
 
 impl State {
@@ -37,11 +36,10 @@ impl State {
     pub fn lights(self) -> Lights
         ensures { λ r. ⌜ r ≡ lightsOf self ⌝ }
     {
-        let place = self.core.place;
-        let gears = place.gears;
+        let voters = self.voters;
         Lights {
-            green: green(gears),
-            orange: orange(gears),
+            green: green(voters),
+            orange: orange(voters),
             red: self.core.anomaly(),
         }
     }

@@ -5,7 +5,7 @@ ghost use mathlib.Core.Path.{_≡_};
 ghost use lib.ListN.{length};
 ghost use Rattle.controller.specs.Start.{freshOrders, freshCore, freshVoters, freshOf};
 ghost use Rattle.controller.specs.Steps.{someOverOne, stepOf};
-ghost use Rattle.controller.specs.Lamps.{greenAt, orangeAt, lightsOf, shownOf};
+ghost use Rattle.controller.specs.Lamps.{lightsOf, shownOf};
 
 mod lamps;
 mod stages;
@@ -78,13 +78,40 @@ fn fresh_orders() -> Orders
     }
 }
 
-// All channels valid, handle held down, the other sensors held 0.
+// All channels valid; handle held down, gear_extended and door_closed held 1, the others held 0.
 fn fresh_voters() -> [Voter; 18]
     ensures { λ r. ⌜ r ≡ freshVoters ⌝ }
 {
-    let mut voters = [Voter::fresh(false); 18];
-    voters[0] = Voter::fresh(true);
-    voters
+    let down = Voter::fresh(true);
+    let one = Voter::fresh(true);
+    let zero = Voter::fresh(false);
+    [
+        // handle, analogical_switch
+        down,
+        zero,
+        // gear_extended
+        one,
+        one,
+        one,
+        // gear_retracted
+        zero,
+        zero,
+        zero,
+        // gear_shock_absorber
+        zero,
+        zero,
+        zero,
+        // door_closed
+        one,
+        one,
+        one,
+        // door_open
+        zero,
+        zero,
+        zero,
+        // circuit_pressurized
+        zero,
+    ]
 }
 
 // Whether a byte is over 1.

@@ -78,7 +78,7 @@ pub(crate) fn sight(voters: [Voter; 18]) -> Sight
 }
 
 // Whether three sensors side by side all say 1.
-fn all_from(voters: [Voter; 18], i: usize) -> bool
+pub(crate) fn all_from(voters: [Voter; 18], i: usize) -> bool
     requires { ⌜ i + 2 < 18 ⌝ }
     ensures { λ r. ⌜ r ≡ threeFrom i voters .all ⌝ }
 {

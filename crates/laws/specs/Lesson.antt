@@ -61,22 +61,22 @@ lessonLines =
     (0, 1 ∷ 0 ∷ 0 ∷ 0 ∷ 0 ∷ [], Opening, Extended, 1 ∷ 0 ∷ 0 ∷ []) ∷
     (0, 1 ∷ 0 ∷ 0 ∷ 0 ∷ 0 ∷ [], Opening, Extended, 1 ∷ 0 ∷ 0 ∷ []) ∷
     (0, 1 ∷ 0 ∷ 1 ∷ 0 ∷ 0 ∷ [], Opening, Extended, 1 ∷ 0 ∷ 0 ∷ []) ∷
-    (0, 1 ∷ 0 ∷ 1 ∷ 0 ∷ 0 ∷ [], Opening, Extended, 1 ∷ 0 ∷ 0 ∷ []) ∷
-    (0, 1 ∷ 0 ∷ 0 ∷ 0 ∷ 0 ∷ [], Open, Extended, 1 ∷ 0 ∷ 0 ∷ []) ∷
+    (0, 1 ∷ 0 ∷ 1 ∷ 0 ∷ 0 ∷ [], Opening, Extended, 1 ∷ 1 ∷ 0 ∷ []) ∷
+    (0, 1 ∷ 0 ∷ 0 ∷ 0 ∷ 0 ∷ [], Open, Extended, 1 ∷ 1 ∷ 0 ∷ []) ∷
+    (0, 1 ∷ 0 ∷ 0 ∷ 1 ∷ 0 ∷ [], Open, Retracting, 1 ∷ 1 ∷ 0 ∷ []) ∷
     (0, 1 ∷ 0 ∷ 0 ∷ 1 ∷ 0 ∷ [], Open, Retracting, 0 ∷ 1 ∷ 0 ∷ []) ∷
-    (0, 1 ∷ 0 ∷ 0 ∷ 1 ∷ 0 ∷ [], Open, Retracting, 0 ∷ 1 ∷ 0 ∷ []) ∷
-    (0, 1 ∷ 0 ∷ 0 ∷ 0 ∷ 0 ∷ [], Open, Retracted, 0 ∷ 0 ∷ 0 ∷ []) ∷
-    (0, 1 ∷ 1 ∷ 0 ∷ 0 ∷ 0 ∷ [], Closing, Retracted, 0 ∷ 0 ∷ 0 ∷ []) ∷
-    (0, 1 ∷ 1 ∷ 0 ∷ 0 ∷ 0 ∷ [], Closing, Retracted, 0 ∷ 0 ∷ 0 ∷ []) ∷
+    (0, 1 ∷ 0 ∷ 0 ∷ 0 ∷ 0 ∷ [], Open, Retracted, 0 ∷ 1 ∷ 0 ∷ []) ∷
+    (0, 1 ∷ 1 ∷ 0 ∷ 0 ∷ 0 ∷ [], Closing, Retracted, 0 ∷ 1 ∷ 0 ∷ []) ∷
+    (0, 1 ∷ 1 ∷ 0 ∷ 0 ∷ 0 ∷ [], Closing, Retracted, 0 ∷ 1 ∷ 0 ∷ []) ∷
     (0, 1 ∷ 0 ∷ 0 ∷ 0 ∷ 0 ∷ [], Closed, Retracted, 0 ∷ 0 ∷ 0 ∷ []) ∷
     (0, 1 ∷ 0 ∷ 1 ∷ 0 ∷ 0 ∷ [], Opening, Retracted, 0 ∷ 0 ∷ 0 ∷ []) ∷
-    (0, 1 ∷ 0 ∷ 1 ∷ 0 ∷ 0 ∷ [], Opening, Retracted, 0 ∷ 0 ∷ 0 ∷ []) ∷
-    (0, 1 ∷ 0 ∷ 0 ∷ 0 ∷ 0 ∷ [], Open, Retracted, 0 ∷ 0 ∷ 0 ∷ []) ∷
+    (0, 1 ∷ 0 ∷ 1 ∷ 0 ∷ 0 ∷ [], Opening, Retracted, 0 ∷ 1 ∷ 0 ∷ []) ∷
+    (0, 1 ∷ 0 ∷ 0 ∷ 0 ∷ 0 ∷ [], Open, Retracted, 0 ∷ 1 ∷ 0 ∷ []) ∷
     (0, 1 ∷ 0 ∷ 0 ∷ 0 ∷ 1 ∷ [], Open, Extending, 0 ∷ 1 ∷ 0 ∷ []) ∷
     (0, 1 ∷ 0 ∷ 0 ∷ 0 ∷ 1 ∷ [], Open, Extending, 0 ∷ 1 ∷ 0 ∷ []) ∷
-    (0, 1 ∷ 0 ∷ 0 ∷ 0 ∷ 0 ∷ [], Open, Extended, 1 ∷ 0 ∷ 0 ∷ []) ∷
-    (0, 1 ∷ 1 ∷ 0 ∷ 0 ∷ 0 ∷ [], Closing, Extended, 1 ∷ 0 ∷ 0 ∷ []) ∷
-    (0, 1 ∷ 1 ∷ 0 ∷ 0 ∷ 0 ∷ [], Closing, Extended, 1 ∷ 0 ∷ 0 ∷ []) ∷
+    (0, 1 ∷ 0 ∷ 0 ∷ 0 ∷ 0 ∷ [], Open, Extended, 1 ∷ 1 ∷ 0 ∷ []) ∷
+    (0, 1 ∷ 1 ∷ 0 ∷ 0 ∷ 0 ∷ [], Closing, Extended, 1 ∷ 1 ∷ 0 ∷ []) ∷
+    (0, 1 ∷ 1 ∷ 0 ∷ 0 ∷ 0 ∷ [], Closing, Extended, 1 ∷ 1 ∷ 0 ∷ []) ∷
     replicate 10 (0, 1 ∷ 0 ∷ 0 ∷ 0 ∷ 0 ∷ [], Closed, Extended, 1 ∷ 0 ∷ 0 ∷ []) ++
     (0, 0 ∷ 0 ∷ 0 ∷ 0 ∷ 0 ∷ [], Closed, Extended, 1 ∷ 0 ∷ 0 ∷ []) ∷
     []

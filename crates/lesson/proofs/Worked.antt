@@ -1,5 +1,5 @@
--- Session S of document 01 comes out as it prints it, byte for byte, and so do the short inputs that end early: the rules
--- compute.
+-- Session S of document 01 comes out as it prints it, with the lamps of request K1, byte for byte, and so do the short inputs
+-- that end early: the rules compute.
 -- Assumes nothing.
 use mathlib.Core.List.{_∷_}
 use mathlib.Core.Path.{refl}

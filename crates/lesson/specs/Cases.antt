@@ -1,4 +1,5 @@
--- Document 01, "Session S", as the whole input and the whole output, and short inputs that end early.
+-- Document 01, "Session S", as the whole input and the whole output with the lamps of request K1, and short inputs that end
+-- early.
 -- Assumes nothing.
 use mathlib.Core.List.{List, [], _∷_, _++_}
 use Prim.Native.Nat.{ℕ}
@@ -68,9 +69,9 @@ sessionS =
     ∷ ascii "3,0,1,0,0,0,0,OPENING,EXTENDED,1,0,0"
     ∷ ascii "4,0,1,0,1,0,0,OPENING,EXTENDED,1,0,0"
     ∷ ascii "5,3,1,0,1,0,0,OPENING,EXTENDED,1,0,0"
-    ∷ ascii "6,0,1,0,0,0,0,OPEN,EXTENDED,1,0,0"
-    ∷ ascii "7,0,1,0,0,1,0,OPEN,RETRACTING,0,1,0"
-    ∷ ascii "8,4,1,0,0,1,0,OPEN,RETRACTING,0,1,0"
+    ∷ ascii "6,0,1,0,0,0,0,OPEN,EXTENDED,1,1,0"
+    ∷ ascii "7,0,1,0,0,1,0,OPEN,RETRACTING,1,1,0"
+    ∷ ascii "8,4,1,0,0,1,0,OPEN,RETRACTING,1,1,0"
     ∷ ascii "9,0,1,0,0,0,0,OPEN,EXTENDING,0,1,0"
     ∷ ascii "10,0,1,0,0,0,0,OPEN,EXTENDING,0,1,0"
     ∷ ascii "11,0,1,0,0,0,1,OPEN,EXTENDING,0,1,0"

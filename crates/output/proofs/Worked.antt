@@ -1,4 +1,5 @@
--- The rows of Session S and rows of a refusal come out as document 01 prints them: the rule computes.
+-- The rows of Session S, with the lamps of request K1, and rows of a refusal come out as document 01 prints them: the rule
+-- computes.
 -- Assumes nothing.
 use mathlib.Core.Path.{refl}
 use Rattle.common.specs.Ascii.{joinedByCommas}

@@ -1,4 +1,5 @@
--- Document 01, "Session S": what is shown at each of its rows, and the line that must be written. And rows of a refusal.
+-- Document 01, "Session S" with the lamps of request K1: what is shown at each of its rows, and the line that must be written.
+-- And rows of a refusal.
 -- Assumes nothing.
 use Prim.Native.Nat.{ℕ}
 use Prim.Native.String.{String}
@@ -41,9 +42,9 @@ sessionS =
     isLine (rowText 3 0 (shows on off off off off Opening Extended on off off)) "3,0,1,0,0,0,0,OPENING,EXTENDED,1,0,0" ∷
     isLine (rowText 4 0 (shows on off on off off Opening Extended on off off)) "4,0,1,0,1,0,0,OPENING,EXTENDED,1,0,0" ∷
     isLine (rowText 5 3 (shows on off on off off Opening Extended on off off)) "5,3,1,0,1,0,0,OPENING,EXTENDED,1,0,0" ∷
-    isLine (rowText 6 0 (shows on off off off off Open Extended on off off)) "6,0,1,0,0,0,0,OPEN,EXTENDED,1,0,0" ∷
-    isLine (rowText 7 0 (shows on off off on off Open Retracting off on off)) "7,0,1,0,0,1,0,OPEN,RETRACTING,0,1,0" ∷
-    isLine (rowText 8 4 (shows on off off on off Open Retracting off on off)) "8,4,1,0,0,1,0,OPEN,RETRACTING,0,1,0" ∷
+    isLine (rowText 6 0 (shows on off off off off Open Extended on on off)) "6,0,1,0,0,0,0,OPEN,EXTENDED,1,1,0" ∷
+    isLine (rowText 7 0 (shows on off off on off Open Retracting on on off)) "7,0,1,0,0,1,0,OPEN,RETRACTING,1,1,0" ∷
+    isLine (rowText 8 4 (shows on off off on off Open Retracting on on off)) "8,4,1,0,0,1,0,OPEN,RETRACTING,1,1,0" ∷
     isLine (rowText 9 0 (shows on off off off off Open Extending off on off)) "9,0,1,0,0,0,0,OPEN,EXTENDING,0,1,0" ∷
     isLine (rowText 10 0 (shows on off off off off Open Extending off on off)) "10,0,1,0,0,0,0,OPEN,EXTENDING,0,1,0" ∷
     isLine (rowText 11 0 (shows on off off off on Open Extending off on off)) "11,0,1,0,0,0,1,OPEN,EXTENDING,0,1,0" ∷

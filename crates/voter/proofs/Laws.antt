@@ -130,3 +130,8 @@ fresh-is-valid held = refl
 pub fresh-shows : (held : Bool) → valueOf (freshWith held) ≡ held
 unfolding valueOf freshWith
 fresh-shows held = refl
+
+-- The first vote of a fresh sensor hears the channels alone: the value held makes no difference.
+pub first-vote-hears-the-channels : (held other : Bool) (one two three : Bool) → voted (freshWith held) one two three ≡ voted (freshWith other) one two three
+unfolding voted votedBy freshWith
+first-vote-hears-the-channels held other one two three = refl
