@@ -15,6 +15,7 @@ use Rattle.controller.specs.Start.{freshCore}
 unfoldable pub votersBeforeK1 : List Voter
 votersBeforeK1 = freshWith true ∷ replicate 17 (freshWith false)
 
+-- The fresh start with them; the rest of it has not moved.
 unfoldable pub freshBeforeK1 : ℕ → State
 freshBeforeK1 stamp = record { stamp = stamp; voters = votersBeforeK1; core = freshCore }
 

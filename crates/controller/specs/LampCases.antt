@@ -1,7 +1,7 @@
 -- Request K1, "the published case reads them from the sensors": what green and orange show for what is voted, gear by gear and
 -- door by door.
 -- Assumes nothing.
-use mathlib.Core.Bool.{Bool, false}
+use mathlib.Core.Bool.{false}
 use mathlib.Core.List.{List, [], _∷_, _++_, map}
 use Prim.Native.Nat.{ℕ}
 use Prim.Native.String.{String}
@@ -34,6 +34,7 @@ lampsAt name extended retracted closed lamps =
       wanted = lamps;
     }
 
+-- Every picture of the two lamps, and each gear and each door by itself.
 unfoldable pub lampCases : List Case
 lampCases =
     lampsAt "down and closed: green" "111" "000" "111" (1 ∷ 0 ∷ []) ∷

@@ -5,7 +5,6 @@ use mathlib.Core.Bool.{Bool, not, _&&_, _||_}
 use mathlib.Core.List.{List, [], _∷_, map}
 use Prim.Native.Nat.{ℕ, _+_}
 use Rattle.voter.specs.declared.Voter.{Voter}
-use Rattle.controller.specs.declared.Core.{Core}
 use Rattle.controller.specs.declared.State.{State}
 use Rattle.controller.specs.declared.Lights.{Lights}
 use Rattle.controller.specs.declared.Shown.{Shown}

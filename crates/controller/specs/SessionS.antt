@@ -5,13 +5,12 @@ use Prim.Native.Nat.{ℕ}
 use lib.ListN.{replicate}
 use Rattle.common.specs.Case.{bit}
 use Rattle.sequence.specs.declared.Doors.{Doors}
-use Rattle.sequence.specs.declared.Doors.the-variants.{Closed, Opening, Open, Closing}
+use Rattle.sequence.specs.declared.Doors.the-variants.{Closed, Opening, Open}
 use Rattle.sequence.specs.declared.Gears.{Gears}
-use Rattle.sequence.specs.declared.Gears.the-variants.{Retracted, Extending, Extended, Retracting}
+use Rattle.sequence.specs.declared.Gears.the-variants.{Extending, Extended, Retracting}
 use Rattle.controller.specs.declared.State.{State}
 use Rattle.controller.specs.declared.Answer.{Answer}
 use Rattle.controller.specs.declared.Shown.{Shown}
-use Rattle.controller.specs.Start.{freshOf}
 use Rattle.controller.specs.Steps.{stepOf}
 use Rattle.controller.specs.Lamps.{shownOf}
 

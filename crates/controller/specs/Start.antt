@@ -48,5 +48,6 @@ freshVoters =
     freshWith false ∷
     []
 
+-- A fresh start takes a stamp.
 unfoldable pub freshOf : ℕ → State
 freshOf stamp = record { stamp = stamp; voters = freshVoters; core = freshCore }

@@ -13,7 +13,7 @@ use voter::Voter;
 fn green(voters: [Voter; 18]) -> bool
     ensures { λ r. ⌜ r ≡ greenOf voters ⌝ }
 {
-    votes::all_from(voters, 2)
+    votes::all_from(voters, votes::GEAR_EXTENDED)
 }
 
 // Whether a gear (0 front, 1 left, 2 right) is voted neither extended nor retracted.
@@ -21,14 +21,17 @@ fn neither(voters: [Voter; 18], gear: usize) -> bool
     requires { ⌜ gear < 3 ⌝ }
     ensures { λ r. ⌜ r ≡ neitherAt gear voters ⌝ }
 {
-    !votes::value_at(voters, 2 + gear) & !votes::value_at(voters, 5 + gear)
+    let extended = votes::value_at(voters, votes::GEAR_EXTENDED + gear);
+    let retracted = votes::value_at(voters, votes::GEAR_RETRACTED + gear);
+    !extended & !retracted
 }
 
 // Orange: some door is not voted closed, or some gear is voted neither extended nor retracted.
 fn orange(voters: [Voter; 18]) -> bool
     ensures { λ r. ⌜ r ≡ orangeOf voters ⌝ }
 {
-    !votes::all_from(voters, 11) | neither(voters, 0) | neither(voters, 1) | neither(voters, 2)
+    let closed = votes::all_from(voters, votes::DOOR_CLOSED);
+    !closed | neither(voters, 0) | neither(voters, 1) | neither(voters, 2)
 }
 
 impl State {

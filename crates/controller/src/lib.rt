@@ -2,10 +2,8 @@
 // The rules are specs/: Start.antt (a fresh start), Votes.antt (the sample and what it says), Stages.antt (one accepted step, in
 // its order), Steps.antt (refusals 1 to 4 and the step), Lamps.antt (the lights and the fields of an output row).
 ghost use mathlib.Core.Path.{_≡_};
-ghost use lib.ListN.{length};
-ghost use Rattle.controller.specs.Start.{freshOrders, freshCore, freshVoters, freshOf};
+ghost use Rattle.controller.specs.Start.{freshOrders, freshVoters, freshOf};
 ghost use Rattle.controller.specs.Steps.{someOverOne, stepOf};
-ghost use Rattle.controller.specs.Lamps.{lightsOf, shownOf};
 
 mod lamps;
 mod stages;

@@ -9,6 +9,21 @@ use sequence::Aim;
 use sequence::Seen;
 use voter::Voter;
 
+// The sensors' numbers, counted from 0 in the sample's order; of three, the front one's.
+const HANDLE: usize = 0;
+
+const ANALOGICAL_SWITCH: usize = 1;
+
+pub(crate) const GEAR_EXTENDED: usize = 2;
+
+pub(crate) const GEAR_RETRACTED: usize = 5;
+
+pub(crate) const DOOR_CLOSED: usize = 11;
+
+const DOOR_OPEN: usize = 14;
+
+const CIRCUIT_PRESSURIZED: usize = 17;
+
 // Every sensor votes over its three channels, which stand side by side in the sample.
 pub(crate) fn all_voted(voters: [Voter; 18], sample: &[u8]) -> [Voter; 18]
     requires { ⌜ length (now sample) ≡ 54 ⌝ }
@@ -67,12 +82,12 @@ pub(crate) fn sight(voters: [Voter; 18]) -> Sight
     ensures { λ r. ⌜ r ≡ sightOf voters ⌝ }
 {
     Sight {
-        closed: three_from(voters, 11),
-        opened: three_from(voters, 14),
-        extended: three_from(voters, 2),
-        retracted: three_from(voters, 5),
-        pressurized: value_at(voters, 17),
-        switch: value_at(voters, 1),
+        closed: three_from(voters, DOOR_CLOSED),
+        opened: three_from(voters, DOOR_OPEN),
+        extended: three_from(voters, GEAR_EXTENDED),
+        retracted: three_from(voters, GEAR_RETRACTED),
+        pressurized: value_at(voters, CIRCUIT_PRESSURIZED),
+        switch: value_at(voters, ANALOGICAL_SWITCH),
         invalid: some_invalid(voters),
     }
 }
@@ -90,10 +105,10 @@ pub(crate) fn seen(voters: [Voter; 18]) -> Seen
     ensures { λ r. ⌜ r ≡ seenOf (sightOf voters) ⌝ }
 {
     Seen {
-        opened: all_from(voters, 14),
-        closed: all_from(voters, 11),
-        extended: all_from(voters, 2),
-        retracted: all_from(voters, 5),
+        opened: all_from(voters, DOOR_OPEN),
+        closed: all_from(voters, DOOR_CLOSED),
+        extended: all_from(voters, GEAR_EXTENDED),
+        retracted: all_from(voters, GEAR_RETRACTED),
     }
 }
 
@@ -101,7 +116,7 @@ pub(crate) fn seen(voters: [Voter; 18]) -> Seen
 pub(crate) fn aim(voters: [Voter; 18]) -> Aim
     ensures { λ r. ⌜ r ≡ aimed voters ⌝ }
 {
-    if value_at(voters, 0) {
+    if value_at(voters, HANDLE) {
         return Aim::ToExtended;
     }
     Aim::ToRetracted

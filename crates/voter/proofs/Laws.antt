@@ -3,7 +3,7 @@
 use Prim.Native.Nat.{_≤_, zero-le}
 use native.Mathlib.Nat.{le-refl}
 use mathlib.Core.Bool.{Bool, true, false, cond, Bool·beq}
-use mathlib.Core.Path.{_≡_, refl, ap, ap₂, subst⁻¹}
+use mathlib.Core.Path.{_≡_, refl, ap₂, subst⁻¹}
 use lib.Dec.{T, lit≤}
 use Rattle.voter.specs.Voting.{
   voted,
