@@ -35,7 +35,7 @@ fn three(held: u32, sensors: u32) -> u32 {
 const ALL: u32 = 0b111;
 
 /// What two channels or more say.
-fn majority([a, b, c]: [u32; 3]) -> u32 {
+pub(crate) fn majority([a, b, c]: [u32; 3]) -> u32 {
     a & b | a & c | b & c
 }
 
@@ -55,7 +55,7 @@ pub struct Rig {
     pub on: u8,
     /// Per channel, the sensors for which it is not struck.
     ok: [u32; 3],
-    invalid: u32,
+    pub(crate) invalid: u32,
     pub held: u32,
     pub doors: Doors,
     pub gears: Gears,
@@ -71,6 +71,7 @@ impl Rig {
             Slip::FreshHandleUp => GEAR_EXTENDED | DOOR_CLOSED,
             Slip::FreshGears0 => HANDLE | DOOR_CLOSED,
             Slip::FreshDoors0 => HANDLE | GEAR_EXTENDED,
+            Slip::FreshOthers1 => SENSORS,
             _ => HANDLE | GEAR_EXTENDED | DOOR_CLOSED,
         };
         Rig {

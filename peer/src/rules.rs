@@ -1,8 +1,9 @@
 //! The numbers of document 01 and, for tests, the faults that can be planted.
-//! `Rules::default()` is document 01 with K1's lamps; every fault moves one number or makes one `Slip`.
+//! `Rules::default()` is document 01 with K1's lamps and K2's dumps; every fault moves one number or
+//! makes one `Slip`.
 
-/// One way of getting document 01 or K1 wrong that is not a moved number. A number in it is a unit:
-/// 0 front, 1 left, 2 right.
+/// One way of getting document 01, K1 or K2 wrong that is not a moved number. A number in it is a
+/// unit: 0 front, 1 left, 2 right.
 #[derive(Clone, Copy, PartialEq, Eq, Debug)]
 #[rustfmt::skip]
 pub enum Slip {
@@ -42,6 +43,22 @@ pub enum Slip {
     HeaderUnchecked, HeaderLong5, NoHeaderSilent, LineIsLabel, GoesOn, RefusedEmpty,
     // Not visible in the output rows
     HighestCause, StampMovedOn3,
+    // Writing a dump: which values
+    FreshOthers1, LampOrderSwapped, OpenCloseSwapped, OrangeRedSwapped, LeftRightSwapped,
+    WiresMajority, WiresChannel1, WiresRefusedSample, WiresInvalid0,
+    // Which times
+    TimeModulo32, TimeIsStamp, TimeIsLabel, TimeNotRound, TimeBeforeStep, RefusedAddsTime,
+    IdleTimeWritten, LastTimeWritten, RefusedRowEnds, WithheldOnRefusal, LastBlockLost,
+    // Which bytes
+    FirstStateMissing, FirstAfterStep, HeadAlways, DumpvarsOpen, CodesFromNext, AllWiresWritten,
+    FirstChangeOnly, ChangesBackwards, ComparesWithFirst, NoLastLf, DumpCrLf,
+    // Reading a dump: what is taken
+    HeadUnchecked, AfterEndSkipped, UnknownTaken, CodePastTaken, OutOfOrderTaken, TwiceTaken,
+    UnchangedTaken, LeadingZeroTaken, ZeroTimeTaken, EqualTimeTaken, FallingTimeTaken, TimeRound,
+    ReadModulo32, LastTimeRefused, IdleTimeTaken, MissingLfTaken, CrLfTaken, BlankLineTaken,
+    RubbishEndsDump,
+    // What the sheet then shows
+    LastRowLost, RowOnRefusal, RowAtNextTime, ValuesStartAgain, SheetLf, NoSheetHeader,
 }
 
 #[derive(Clone, Debug)]
@@ -253,6 +270,77 @@ pub fn unseen() -> Vec<(String, Rules)> {
     all
 }
 
+/// Faults that a dump can show, of its writer and of what a run hands to it.
+pub fn wave_faults() -> Vec<(String, Rules)> {
+    use Slip::*;
+    slips(&[
+        ("fresh_other_sensors_1", FreshOthers1),
+        ("lamp_and_order_swapped", LampOrderSwapped),
+        ("open_and_close_swapped", OpenCloseSwapped),
+        ("orange_and_red_swapped", OrangeRedSwapped),
+        ("left_and_right_swapped", LeftRightSwapped),
+        ("wires_from_raw_majority", WiresMajority),
+        ("wires_from_channel_1", WiresChannel1),
+        ("wires_from_refused_sample", WiresRefusedSample),
+        ("invalid_sensor_shown_as_0", WiresInvalid0),
+        ("time_written_modulo_2p32", TimeModulo32),
+        ("time_is_stamp", TimeIsStamp),
+        ("time_is_label", TimeIsLabel),
+        ("time_stands_when_stamp_goes_round", TimeNotRound),
+        ("time_before_step", TimeBeforeStep),
+        ("refused_row_adds_time", RefusedAddsTime),
+        ("time_without_change_written", IdleTimeWritten),
+        ("last_time_written", LastTimeWritten),
+        ("refused_row_ends_dump", RefusedRowEnds),
+        ("nothing_written_on_5_6_7", WithheldOnRefusal),
+        ("last_block_lost", LastBlockLost),
+        ("first_state_missing", FirstStateMissing),
+        ("first_state_after_first_step", FirstAfterStep),
+        ("head_without_row_0", HeadAlways),
+        ("dumpvars_without_end", DumpvarsOpen),
+        ("codes_off_by_one", CodesFromNext),
+        ("unchanged_wires_written", AllWiresWritten),
+        ("first_change_only", FirstChangeOnly),
+        ("changes_backwards", ChangesBackwards),
+        ("changes_against_first_state", ComparesWithFirst),
+        ("no_last_lf", NoLastLf),
+        ("dump_with_crlf", DumpCrLf),
+    ])
+}
+
+/// Faults that a sheet can show, of the reader of dumps and of the sheet.
+pub fn sheet_faults() -> Vec<(String, Rules)> {
+    use Slip::*;
+    slips(&[
+        ("head_unchecked", HeadUnchecked),
+        ("rubbish_after_end_taken", AfterEndSkipped),
+        ("value_x_taken", UnknownTaken),
+        ("code_past_last_taken", CodePastTaken),
+        ("wire_out_of_order_taken", OutOfOrderTaken),
+        ("wire_twice_taken", TwiceTaken),
+        ("unchanged_wire_taken", UnchangedTaken),
+        ("time_with_leading_zero_taken", LeadingZeroTaken),
+        ("time_0_again_taken", ZeroTimeTaken),
+        ("equal_time_taken", EqualTimeTaken),
+        ("falling_time_taken", FallingTimeTaken),
+        ("time_modulo_2p64", TimeRound),
+        ("time_read_modulo_2p32", ReadModulo32),
+        ("time_2p64_less_1_refused", LastTimeRefused),
+        ("time_without_change_taken", IdleTimeTaken),
+        ("missing_last_lf_taken", MissingLfTaken),
+        ("crlf_taken", CrLfTaken),
+        ("blank_line_taken", BlankLineTaken),
+        ("rubbish_ends_dump", RubbishEndsDump),
+        ("last_row_lost", LastRowLost),
+        ("row_of_refused_block", RowOnRefusal),
+        ("row_only_at_next_time", RowAtNextTime),
+        ("values_start_again", ValuesStartAgain),
+        ("sheet_with_lf", SheetLf),
+        ("sheet_without_header", NoSheetHeader),
+    ])
+}
+
 pub fn by_name(name: &str) -> Option<Rules> {
-    faults().into_iter().chain(unseen()).find(|f| f.0 == name).map(|f| f.1)
+    let dumps = wave_faults().into_iter().chain(sheet_faults());
+    faults().into_iter().chain(unseen()).chain(dumps).find(|f| f.0 == name).map(|f| f.1)
 }

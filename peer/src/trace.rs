@@ -1,4 +1,5 @@
-//! "The trace and its program" of document 01: rows in, rows out, `replay`.
+//! "The trace and its program" of document 01: rows in, rows out, `replay`. What is made of the rows
+//! is a `Sink`, so that K2's `waves` reads a trace by the same rules.
 
 use crate::rig::{Doors, Gears, Rig};
 use crate::rules::{Rules, Slip};
@@ -205,7 +206,7 @@ impl<R: Read> Lines<R> {
     }
 }
 
-fn decimal(out: &mut Vec<u8>, mut n: u64) {
+pub(crate) fn decimal(out: &mut Vec<u8>, mut n: u64) {
     let mut text = [0; 20];
     let mut at = text.len();
     loop {
@@ -219,6 +220,16 @@ fn decimal(out: &mut Vec<u8>, mut n: u64) {
     out.extend_from_slice(&text[at..]);
 }
 
+/// What a program makes of the rows of a trace.
+pub(crate) trait Sink {
+    /// A row that was taken, or got 3 or 4 as its code, and the controller as it then stands.
+    fn row(&mut self, r: &Rules, label: u64, code: u8, row: &Row, rig: &Rig) -> io::Result<()>;
+    /// The refusal that ends the reading.
+    fn refused(&mut self, _ended: &Ended) {}
+    /// After the last row: writes out what is ready. `bare`: the last row lacked its CRLF.
+    fn end(&mut self, r: &Rules, bare: bool) -> io::Result<()>;
+}
+
 /// The output, written in large pieces. The fields after the code are kept as text while the
 /// state they show stays the same.
 struct Output<W> {
@@ -228,8 +239,9 @@ struct Output<W> {
     fields: Vec<u8>,
 }
 
-impl<W: Write> Output<W> {
-    fn row(&mut self, r: &Rules, label: u64, code: u8, rig: &Rig) -> io::Result<()> {
+impl<W: Write> Sink for Output<W> {
+    #[inline]
+    fn row(&mut self, r: &Rules, label: u64, code: u8, _: &Row, rig: &Rig) -> io::Result<()> {
         let state = (rig.on, rig.doors, rig.gears, rig.lights(r));
         if self.shown != Some(state) {
             self.shown = Some(state);
@@ -264,6 +276,22 @@ impl<W: Write> Output<W> {
         Ok(())
     }
 
+    /// The refusal row: line number, refusal, ten empty fields.
+    fn refused(&mut self, ended: &Ended) {
+        decimal(&mut self.buf, ended.line);
+        self.buf.extend_from_slice(&[b',', b'0' + ended.refusal]);
+        self.buf.extend_from_slice(b",,,,,,,,,,\r\n");
+    }
+
+    fn end(&mut self, r: &Rules, bare: bool) -> io::Result<()> {
+        if r.is(Slip::LastCrLfCopied) && bare {
+            self.buf.truncate(self.buf.len().saturating_sub(2));
+        }
+        self.flush()
+    }
+}
+
+impl<W: Write> Output<W> {
     fn flush(&mut self) -> io::Result<()> {
         self.out.write_all(&self.buf)?;
         self.buf.clear();
@@ -279,24 +307,21 @@ pub enum Stopped {
 
 /// `replay`: the whole program but for its message on standard error.
 pub fn replay(r: &Rules, input: impl Read, out: impl Write) -> Result<Option<Ended>, Stopped> {
-    let mut lines = Lines::new(input);
     let mut output = Output { out, buf: Vec::with_capacity(1 << 17), shown: None, fields: Vec::new() };
     output.buf.extend_from_slice(OUT_HEADER);
-    let ended = rows(r, &mut lines, &mut output);
-    if r.is(Slip::LastCrLfCopied) && lines.bare {
-        output.buf.truncate(output.buf.len().saturating_sub(2));
-    }
-    match ended {
+    run(r, input, &mut output)
+}
+
+/// A whole trace through a sink. If reading fails, what is ready is written out.
+pub(crate) fn run(r: &Rules, input: impl Read, sink: &mut impl Sink) -> Result<Option<Ended>, Stopped> {
+    let mut lines = Lines::new(input);
+    match rows(r, &mut lines, sink) {
         Err(Stopped::Writing(e)) => Err(Stopped::Writing(e)),
-        other => output.flush().map_err(Stopped::Writing).and(other),
+        other => sink.end(r, lines.bare).map_err(Stopped::Writing).and(other),
     }
 }
 
-fn rows<R: Read, W: Write>(
-    r: &Rules,
-    lines: &mut Lines<R>,
-    output: &mut Output<W>,
-) -> Result<Option<Ended>, Stopped> {
+fn rows<R: Read>(r: &Rules, lines: &mut Lines<R>, sink: &mut impl Sink) -> Result<Option<Ended>, Stopped> {
     // The header is line 1.
     let (refusal, bare_lf) = match lines.next(r).map_err(Stopped::Reading)? {
         Line::Row(text) if text == HEADER || r.is(Slip::HeaderUnchecked) => (0, false),
@@ -306,7 +331,9 @@ fn rows<R: Read, W: Write>(
         Line::Long(text) => (if r.is(Slip::HeaderLong5) { 5 } else { 6 }, text.contains(&b'\n')),
     };
     if refusal != 0 {
-        return Ok(Some(refuse(output, 1, refusal, bare_lf)));
+        let ended = Ended { line: 1, refusal, bare_lf };
+        sink.refused(&ended);
+        return Ok(Some(ended));
     }
     // Labels count 0, 1, 2 and so on; after 4,294,967,295 none of 32 bits is due.
     let mut due = 0u64;
@@ -334,7 +361,7 @@ fn rows<R: Read, W: Write>(
                     } else {
                         rig.step(r, row.stamp, row.sample)
                     };
-                    output.row(r, due, code, &rig).map_err(Stopped::Writing)?;
+                    sink.row(r, due, code, &row, &rig).map_err(Stopped::Writing)?;
                     // A row that gets 3 or 4 uses up its label.
                     due += u64::from(code == 0 || !r.is(Slip::LabelKeptOnRefusal));
                     continue;
@@ -342,20 +369,13 @@ fn rows<R: Read, W: Write>(
             },
         };
         let line = if r.is(Slip::LineIsLabel) { due } else { due + 2 };
-        let ended = refuse(output, line, refusal, false);
+        let ended = Ended { line, refusal, bare_lf: false };
+        sink.refused(&ended);
         if !r.is(Slip::GoesOn) {
             return Ok(Some(ended));
         }
         due += 1;
     }
-}
-
-/// The refusal row: line number, refusal, ten empty fields.
-fn refuse<W: Write>(output: &mut Output<W>, line: u64, refusal: u8, bare_lf: bool) -> Ended {
-    decimal(&mut output.buf, line);
-    output.buf.extend_from_slice(&[b',', b'0' + refusal]);
-    output.buf.extend_from_slice(b",,,,,,,,,,\r\n");
-    Ended { line, refusal, bare_lf }
 }
 
 /// Faults only: the first field is a number and not the label due.

@@ -532,6 +532,17 @@ pub fn vectors() -> Vec<(String, Vec<u8>)> {
     ] {
         add(name, changed(3, |row| field(row, which, text.into())));
     }
+    // After much has changed.
+    add("bad_label_late", {
+        let mut rows = cut(&session_s());
+        field(&mut rows[11], 0, b"11".to_vec());
+        with_breaks(&rows)
+    });
+    add("bad_row_513_late", {
+        let mut rows = cut(&session_s());
+        rows[11].resize(513, b'0');
+        with_breaks(&rows)
+    });
     add("header_only", HEADER.to_vec());
     add("random_edges", trace(5, "edges", None).unwrap());
     all

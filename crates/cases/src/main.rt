@@ -1,150 +1,46 @@
-// Runs stored traces and compares what is written with what is stored, byte for byte. Each argument names a case: its trace is
-// NAME.in, and its output must be NAME.out. Each is run twice, in large parts and in parts of seven bytes.
+// Runs stored cases and compares what is written with what is stored, byte for byte. Each argument names a case by what is stored:
+// NAME is the output of a trace (the module `outputs`), NAME.vcd the dump of a trace (`dumps`), NAME.csv the values of a dump
+// (`tables`). Each is run twice, in large parts and in parts of seven bytes.
 ghost use mathlib.Core.Path.{_≡_};
 ghost use lib.ListN.{length};
-use lesson::Lesson;
+
+mod dumps;
+mod files;
+mod outputs;
+mod tables;
+
 use libc::STDOUT_FILENO;
-use output::Written;
 
-// A run after a turn: whether all was as stored, and whether the trace goes on.
-struct After {
-    same: bool,
-    on: bool,
-    lesson: Lesson,
+// The name before an ending: its length, or that the argument does not end so.
+enum Stem {
+    Name(usize),
+    Nothing,
 }
 
-// Whether the first n bytes of `out` are the next n bytes of the stored output.
-fn as_stored(fd: i32, out: &[u8], n: usize, stored: &mut [u8]) -> bool {
-    if out.len() < n {
-        return false;
+// Takes an ending off the argument that stands in the first n bytes of `path`.
+fn without(path: &[u8], n: usize, ending: &[u8]) -> Stem {
+    if path.len() < n {
+        return Stem::Nothing;
     }
-    if stored.len() < n {
-        return false;
+    if n < ending.len() {
+        return Stem::Nothing;
     }
-    let got = io::read_full(fd, &mut stored[..n]);
-    if got != n {
-        return false;
+    let at = n - ending.len();
+    if check::same(&path[at..n], ending) {
+        return Stem::Name(at);
     }
-    check::same(&out[..n], &stored[..n])
+    Stem::Nothing
 }
 
-// Whether nothing is left of the stored output.
-fn at_end(fd: i32) -> bool {
-    let mut one = [0u8; 1];
-    let got = io::read_full(fd, &mut one);
-    got == 0
-}
-
-// One part of a trace, or its end.
-fn turn(
-    lesson: Lesson,
-    trace: i32,
-    fd: i32,
-    input: &mut [u8],
-    line: &mut [u8],
-    out: &mut [u8],
-    stored: &mut [u8],
-) -> After {
-    let n = io::read_full(trace, input);
-    if n == 0 {
-        let took = lesson.finish(line, out);
-        let next = took.lesson;
-        let same = as_stored(fd, out, took.written, stored);
-        return After {
-            same: same & at_end(fd),
-            on: false,
-            lesson: next,
-        };
+// Runs the case that the first n bytes of `path` name, and answers whether it was as stored.
+fn case(path: &mut [u8], n: usize, input: &mut [u8], out: &mut [u8]) -> bool {
+    if let Stem::Name(name) = without(path, n, b".vcd") {
+        return dumps::case(path, name, input, out);
     }
-    let took = lesson.take(&input[..n], line, out);
-    let next = took.lesson;
-    let same = as_stored(fd, out, took.written, stored);
-    After {
-        same,
-        on: same,
-        lesson: next,
+    if let Stem::Name(name) = without(path, n, b".csv") {
+        return tables::case(path, name, input, out);
     }
-}
-
-// Whether the stored output begins with the header.
-fn begins(fd: i32, out: &mut [u8], stored: &mut [u8]) -> bool {
-    let header = output::write_header(out);
-    let Written::Bytes(n) = header else {
-        return false;
-    };
-    as_stored(fd, out, n, stored)
-}
-
-// A trace in parts of the length of `input`, from its first byte on: whether what is written is as stored, to its end.
-fn goes_on(
-    trace: i32,
-    fd: i32,
-    input: &mut [u8],
-    line: &mut [u8],
-    out: &mut [u8],
-    stored: &mut [u8],
-) -> bool {
-    let mut lesson = Lesson::new();
-    let mut turns = u64::MAX;
-    while turns > 0 {
-        let after = turn(lesson, trace, fd, input, line, out, stored);
-        lesson = after.lesson;
-        if !after.on {
-            return after.same;
-        }
-        turns -= 1;
-    }
-    false
-}
-
-// A whole trace: whether what is written is as stored.
-fn runs(
-    trace: i32,
-    fd: i32,
-    input: &mut [u8],
-    line: &mut [u8],
-    out: &mut [u8],
-    stored: &mut [u8],
-) -> bool {
-    if begins(fd, out, stored) {
-        return goes_on(trace, fd, input, line, out, stored);
-    }
-    false
-}
-
-// Opens the file whose name stands in the first n bytes of `path`, with an ending behind it.
-fn open_with(path: &mut [u8], n: usize, ending: &[u8]) -> i32 {
-    let mut at = n;
-    let mut i = 0;
-    while i < ending.len() {
-        if path.len() <= at {
-            return -1;
-        }
-        path[at] = ending[i];
-        at += 1;
-        i += 1;
-    }
-    if path.len() < at {
-        return -1;
-    }
-    os::open_read(&path[..at])
-}
-
-// Runs the case whose name stands in the first n bytes of `path`, and answers whether it was as stored.
-fn case(
-    path: &mut [u8],
-    n: usize,
-    input: &mut [u8],
-    line: &mut [u8],
-    out: &mut [u8],
-    stored: &mut [u8],
-) -> bool {
-    let trace = open_with(path, n, b".in");
-    let fd = open_with(path, n, b".out");
-    let same = runs(trace, fd, input, line, out, stored);
-    libc::close(trace);
-    libc::close(fd);
-    same
+    outputs::case(path, n, input, out)
 }
 
 // Says of a case whether it was as stored.
@@ -160,18 +56,11 @@ fn tell(path: &[u8], n: usize, same: bool) {
 }
 
 // Runs the case that an argument names, in large parts and in small ones.
-fn argument(
-    i: usize,
-    input: &mut [u8],
-    small: &mut [u8],
-    line: &mut [u8],
-    out: &mut [u8],
-    stored: &mut [u8],
-) {
+fn argument(i: usize, input: &mut [u8], small: &mut [u8], out: &mut [u8]) {
     let mut path = io::buffer();
     let n = os::arg(i, &mut path);
-    let whole = case(&mut path, n, input, line, out, stored);
-    let cut = case(&mut path, n, small, line, out, stored);
+    let whole = case(&mut path, n, input, out);
+    let cut = case(&mut path, n, small, out);
     tell(&path, n, whole & cut);
 }
 
@@ -183,26 +72,18 @@ fn room() -> [u8; 262208]
 }
 
 // Runs the cases that the arguments name.
-fn arguments(
-    input: &mut [u8],
-    small: &mut [u8],
-    line: &mut [u8],
-    out: &mut [u8],
-    stored: &mut [u8],
-) {
+fn arguments(input: &mut [u8], small: &mut [u8], out: &mut [u8]) {
     let count = os::arg_count();
     let mut i = 1;
     while i < count {
-        argument(i, input, small, line, out, stored);
+        argument(i, input, small, out);
         i += 1;
     }
 }
 
 fn main() {
-    let mut line = [0u8; 512];
     let mut input = io::buffer();
     let mut small = [0u8; 7];
     let mut out = room();
-    let mut stored = room();
-    arguments(&mut input, &mut small, &mut line, &mut out, &mut stored);
+    arguments(&mut input, &mut small, &mut out);
 }

@@ -4,4 +4,5 @@ pub mod Case
 pub mod Decimal
 pub mod Lists
 pub mod Lowest
+pub mod Names
 pub mod OneAnswer

@@ -17,18 +17,19 @@ use Rattle.lines.specs.declared.Final.{Final}
 use Rattle.lines.specs.declared.Final.the-variants.{Nothing, Last, Wider}
 use Rattle.lines.proofs.Law.{StartsOver, cut-law, last-law, start-law}
 use Rattle.output.specs.Rows.{headerText}
-use Rattle.lesson.specs.declared.Phase.the-variants.{Ended}
-use Rattle.lesson.specs.declared.Reading.{Reading}
+use Rattle.reading.specs.Lasts.{lastBy, lastHeard}
+use Rattle.reading.specs.declared.Phase.the-variants.{Ended}
+use Rattle.reading.specs.declared.Reading.{Reading}
+use Rattle.reading.specs.Rows.{untold, rowOf, overOf}
+use Rattle.reading.specs.Ends.{Silent}
+use Rattle.reading.proofs.Ends.{over-row, after-refusal, after-over, past-row}
 use Rattle.lesson.specs.declared.Lesson.{Lesson}
-use Rattle.lesson.specs.declared.Took.{Took}
-use Rattle.lesson.specs.Replay.{rowOf, endOf, writtenOf, nothingRead, replayOf}
+use Rattle.lesson.specs.Replay.{textOf, writtenOf, replayOf}
 use Rattle.lesson.specs.Parts.{
   Part,
   newLesson,
-  overOf,
   takenFrom,
   partOf,
-  lastBy,
   lastPartOf,
   roomFor,
   placed,
@@ -38,17 +39,27 @@ use Rattle.lesson.specs.Parts.{
 }
 use Rattle.lesson.specs.Runs.{Call, inputOf, AllRoom, wrote, writtenInAll}
 use Rattle.lesson.proofs.Turns.{on-row, on-more, on-over}
-use Rattle.lesson.proofs.Ends.{over-row, after-end, after-over, past-row}
 
 -- What a run has still to write, where `rest` is the input that follows: that of the rows from the one under way on.
 toCome : Lesson → List ℕ → List ℕ → List ℕ
 toCome lesson line rest = writtenOf (lesson .reading) (rowsFrom (take (lesson .len) line) (lesson .cr) rest)
 
+-- Of what comes to nothing nothing is written.
+untold-text : (reading : Reading) → textOf (untold reading) ≡ []
+unfolding textOf
+untold-text reading = refl
+
+nothing-more : (reading : Reading) → Silent reading → (rows : List (List ℕ)) → writtenOf reading rows ≡ []
+unfolding writtenOf
+nothing-more reading s [] = rw (s .at-end) (untold-text reading)
+nothing-more reading s (row ∷ rows) = rw (s .at-row row, untold-text reading) (nothing-more reading s rows)
+
 -- Rows of which the first is over the line are written as such a row, and no more.
-starts-over : (reading : Reading) (rows : List (List ℕ)) → StartsOver 512 rows → writtenOf reading rows ≡ overOf reading .1
+starts-over : (reading : Reading) (rows : List (List ℕ)) → StartsOver 512 rows → writtenOf reading rows ≡ textOf (overOf reading)
 unfolding writtenOf
 starts-over reading rows s =
-    rw (s .are, over-row reading (s .first) (s .over), after-over reading (s .others)) (append-nil (overOf reading .1))
+    rw (s .are, over-row reading (s .first) (s .over), nothing-more (overOf reading .reading) (after-over reading) (s .others))
+    (append-nil (textOf (overOf reading)))
 
 -- ---- One part
 
@@ -72,11 +83,11 @@ module _ (part rest : List ℕ) where
   by-answer rows text reading from line len c (Row used n) line′ e h on =
       let l = cut-law part from line len c (Row used n) line′ e in
       let g = rowOf reading (take n line′) in
-      let k = on (text ++ g .1) (g .0) used (l .1 .forth) (l .1 .inside) (l .0 ∙ h) in
+      let k = on (text ++ textOf g) (g .reading) used (l .1 .forth) (l .1 .inside) (l .0 ∙ h) in
       rw (on-row part text reading from line len c rows e refl) (
       record {
         full = k .full;
-        same = rw (l .1 .are rest, ← start-law (drop used part ++ rest)) (sym (append-assoc text (g .1) _) ∙ k .same);
+        same = rw (l .1 .are rest, ← start-law (drop used part ++ rest)) (sym (append-assoc text (textOf g) _) ∙ k .same);
       }
       )
   by-answer rows text reading from line len c (More n c′) line′ e h on =
@@ -89,7 +100,9 @@ module _ (part rest : List ℕ) where
       rw (on-over part text reading from line len c rows e refl) (
       record {
         full = l .0 ∙ h;
-        same = rw (starts-over reading _ s, after-over reading (rowsFrom [] false rest)) (sym (append-nil (text ++ overOf reading .1)));
+        same =
+            rw (starts-over reading _ s, nothing-more (overOf reading .reading) (after-over reading) (rowsFrom [] false rest))
+            (sym (append-nil (text ++ textOf (overOf reading))));
       }
       )
 
@@ -113,18 +126,19 @@ part-keeps lesson part line rest h =
 last-by : (reading : Reading) (line : List ℕ) (len : ℕ) (c : Bool) (r : Final) (line′ : List ℕ)
     → (r, line′) ≡ lastOf line len c
     → length line ≡ 512
-    → lastBy reading r line′ .1 ≡ writtenOf reading (rowsFrom (take len line) c [])
+    → textOf (lastBy reading r line′) ≡ writtenOf reading (rowsFrom (take len line) c [])
 unfolding writtenOf
 last-by reading line len c Nothing line′ e h = rw (last-law line len c Nothing line′ e .1)
 last-by reading line len c (Last n) line′ e h =
-    rw (last-law line len c (Last n) line′ e .1 .1, past-row reading (take n line′))
-    (sym (append-nil (rowOf reading (take n line′) .1)))
+    let g = rowOf reading (take n line′) in
+    rw (last-law line len c (Last n) line′ e .1 .1, past-row reading (take n line′), untold-text (g .reading))
+    (sym (append-nil (textOf g)))
 last-by reading line len c Wider line′ e h =
     let l = last-law line len c Wider line′ e in
     sym (starts-over reading (rowsFrom (take len line) c []) (rw (l .0 ∙ h) at (l .1)))
 
 last-part : (lesson : Lesson) (line : List ℕ) → length line ≡ 512 → lastPartOf lesson line .text ≡ toCome lesson line []
-unfolding lastPartOf toCome
+unfolding lastPartOf lastHeard toCome
 last-part lesson line h = last-by (lesson .reading) line (lesson .len) (lesson .cr) _ _ refl h
 
 -- ---- The lent buffers
@@ -177,4 +191,4 @@ pub ended-for-good : (lesson : Lesson) (line : List ℕ) (calls : List Call) (la
     → writtenInAll lesson line calls last ≡ []
 unfolding toCome
 ended-for-good lesson line calls last at refusal e h rooms room =
-    in-all calls lesson line last h rooms room ∙ after-end (lesson .reading) at refusal _ e
+    in-all calls lesson line last h rooms room ∙ nothing-more (lesson .reading) (after-refusal (lesson .reading) at refusal e) _

@@ -1,10 +1,10 @@
 -- What holds while a part is taken in, row by row: the rule gives for the whole part what it gives from here on, the text so
 -- far stands in front of the output buffer, and there is room for the rest. Each turn is one line of the rule.
 -- Assumes nothing.
-use Prim.Native.Nat.{ℕ, suc, _+_, _-_, _*_, _<_, _≤_}
+use Prim.Native.Nat.{ℕ, suc, _+_, _-_, _*_, _≤_}
 use native.Mathlib.Omega.{arith}
 use mathlib.Core.Bool.{Bool, false}
-use mathlib.Core.List.{List, [], _++_}
+use mathlib.Core.List.{List, _++_}
 use mathlib.Core.Path.{_≡_, refl, sym, ap, _∙_}
 use lib.ListN.{length, take, drop, take-append-drop}
 use lib.Seq.{length-take-le, drop-drop}
@@ -12,13 +12,13 @@ use Rattle.lines.specs.Cuts.{cutOf}
 use Rattle.lines.specs.declared.Taken.{Taken}
 use Rattle.lines.specs.declared.Taken.the-variants.{Row, More, Over}
 use Rattle.lines.proofs.Law.{cut-law, row-law}
-use Rattle.lesson.specs.declared.Reading.{Reading}
+use Rattle.reading.specs.declared.Reading.{Reading}
+use Rattle.reading.specs.declared.Heard.{Heard}
+use Rattle.reading.specs.Rows.{rowOf, overOf}
 use Rattle.lesson.specs.declared.Lesson.{Lesson}
-use Rattle.lesson.specs.declared.Did.{Did}
-use Rattle.lesson.specs.declared.Took.{Took}
-use Rattle.lesson.specs.Replay.{rowOf}
-use Rattle.lesson.specs.Parts.{Part, overOf, takenFrom, partOf, roomFor, placed}
-use Rattle.lesson.specs.Writes.{DidAt}
+use Rattle.lesson.specs.Replay.{textOf}
+use Rattle.lesson.specs.Parts.{Part, takenFrom, partOf, roomFor, placed}
+use Rattle.lesson.specs.Writes.{ToldAt}
 
 -- ---- The lines of the rule, each with its answer told
 
@@ -26,7 +26,7 @@ module _ (part text : List ℕ) (reading : Reading) (from : ℕ) (line : List �
     {line′ : List ℕ} (e : (r, line′) ≡ cutOf part from line len c) where
   pub on-row : {used n : ℕ} → r ≡ Row used n
       → takenFrom (suc rows) part text reading from line len c
-      ≡ takenFrom rows part (text ++ rowOf reading (take n line′) .1) (rowOf reading (take n line′) .0) used line′ 0 false
+      ≡ takenFrom rows part (text ++ textOf (rowOf reading (take n line′))) (rowOf reading (take n line′) .reading) used line′ 0 false
   unfolding takenFrom
   on-row f = rw (← e, f)
 
@@ -39,9 +39,9 @@ module _ (part text : List ℕ) (reading : Reading) (from : ℕ) (line : List �
   pub on-over : r ≡ Over
       → takenFrom (suc rows) part text reading from line len c
       ≡ record {
-        lesson = record { reading = overOf reading .0; len = 0; cr = false };
+        lesson = record { reading = overOf reading .reading; len = 0; cr = false };
         line = line′;
-        text = text ++ overOf reading .1;
+        text = text ++ textOf (overOf reading);
       }
   unfolding takenFrom
   on-over f = rw (← e, f)
@@ -89,11 +89,12 @@ module _ {part out₀ : List ℕ} {whole : Part} {line out : List ℕ} {reading 
   still n out′ p = p ∙ sym (drop-drop n at out) ∙ ap (drop n) (so .past) ∙ drop-drop n at out₀
 
   -- A row that is whole is read, and it goes on behind it.
-  pub after-row : {used n : ℕ} → r ≡ Row used n → {d : Did} {out′ : List ℕ}
-      → DidAt (rowOf reading (take n line′)) at out d out′
+  pub after-row : {used n : ℕ} → r ≡ Row used n → {heard : Heard} {k : ℕ} {out′ : List ℕ}
+      → heard ≡ rowOf reading (take n line′)
+      → ToldAt (textOf heard) at out k out′
       → length out′ ≡ length out
-      → Onward part out₀ whole line′ out′ (d .reading) 0 false used (at + d .written)
-  after-row {used} {n} f {d} {out′} w l =
+      → Onward part out₀ whole line′ out′ (heard .reading) 0 false used (at + k)
+  after-row {used} {n} f {heard} {k} {out′} g w l =
       let t = row-law part from line len c e f in
       let one-less : suc (so .rows - 1) ≡ so .rows = omega (arith, so .enough, t .forth, t .inside) in
       record {
@@ -101,10 +102,10 @@ module _ {part out₀ : List ℕ} {whole : Part} {line out : List ℕ} {reading 
         long = l ∙ so .long;
         inside = t .inside;
         short = omega (arith, so .short, t .forth, w .short);
-        past = still (d .written) out′ (w .past);
+        past = still k out′ (w .past);
         rows = so .rows - 1;
         enough = omega (arith, so .enough, t .forth, t .inside);
-        same = rw (w .text, w .reading, one-less) (so .same ∙ on-row part (take at out) reading from line len c (so .rows) e f);
+        same = rw (w .text, g, one-less) (so .same ∙ on-row part (take at out) reading from line len c (so .rows) e f);
       }
 
   -- The part is used up.
@@ -116,12 +117,13 @@ module _ {part out₀ : List ℕ} {whole : Part} {line out : List ℕ} {reading 
       (omega (arith, so .short, so .inside, so .long)) (so .past))
 
   -- A row is over, and that ends it.
-  pub after-over : r ≡ Over → roomFor (length part) ≤ length out₀ → {d : Did} {out′ : List ℕ}
-      → DidAt (overOf reading) at out d out′
+  pub after-over : r ≡ Over → roomFor (length part) ≤ length out₀ → {heard : Heard} {k : ℕ} {out′ : List ℕ}
+      → heard ≡ overOf reading
+      → ToldAt (textOf heard) at out k out′
       → length out′ ≡ length out
-      → (record { refusal = 0; lesson = record { reading = d .reading; len = 0; cr = false }; written = at + d .written }, line′, out′)
+      → (record { refusal = 0; lesson = record { reading = heard .reading; len = 0; cr = false }; written = at + k }, line′, out′)
       ≡ placed whole out₀
-  after-over f room {d} {out′} w l =
-      rw (so .same, on-over part (take at out) reading from line len c (so .rows) e f, ← w .text, ← w .reading)
-      (placed-at (record { reading = d .reading; len = 0; cr = false }) line′ out′ out₀ (at + d .written)
-      (omega (arith, so .short, so .inside, so .long, w .short, l)) (still (d .written) out′ (w .past)))
+  after-over f room {heard} {k} {out′} g w l =
+      rw (so .same, on-over part (take at out) reading from line len c (so .rows) e f, ← g, ← w .text)
+      (placed-at (record { reading = heard .reading; len = 0; cr = false }) line′ out′ out₀ (at + k)
+      (omega (arith, so .short, so .inside, so .long, w .short, l)) (still k out′ (w .past)))

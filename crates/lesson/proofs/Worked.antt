@@ -12,19 +12,8 @@ use Rattle.trace.specs.Numbers.{digitsFrom, numberOf, tripleOf}
 use Rattle.trace.specs.Rows.{fieldsOf, triplesOf, formOf, inTurn, readRow}
 use Rattle.trace.specs.Header.{headerNames, headerText as traceHeader, sameText}
 use Rattle.output.specs.Rows.{headerText, rowText, refusalText}
-use Rattle.lesson.specs.Replay.{
-  endsAt,
-  headerRow,
-  answerTo,
-  shownRow,
-  noSample,
-  traceRow,
-  rowOf,
-  endOf,
-  writtenOf,
-  nothingRead,
-  replayOf,
-}
+use Rattle.reading.specs.Rows.{endsAt, headerRow, answerTo, shownRow, noSample, traceRow, rowOf, endOf, nothingRead}
+use Rattle.lesson.specs.Replay.{textOf, writtenOf, replayOf}
 use Rattle.lesson.specs.Cases.{ended, trace, output, replays, sessionS, early, afterTheLastLabel}
 
 pub worked : AllAsWanted (sessionS ∷ afterTheLastLabel ∷ early)
@@ -32,6 +21,6 @@ unfolding
     rules
     before rowsOf digitsFrom numberOf tripleOf fieldsOf triplesOf formOf inTurn readRow headerNames traceHeader sameText
     decimal decimalUpTo joinedByCommas headerText rowText refusalText
-    endsAt headerRow answerTo shownRow noSample traceRow rowOf endOf writtenOf nothingRead replayOf
+    endsAt headerRow answerTo shownRow noSample traceRow rowOf endOf nothingRead textOf writtenOf replayOf
     ended trace output replays sessionS early afterTheLastLabel
 worked = refl

@@ -1,13 +1,13 @@
 -- Where there is room, a writer puts its text in front of the output buffer; and 64 bytes are room for every row, whatever
 -- numbers of their types it bears: the digits of the two, the two words, and the bytes that every row has.
 -- Assumes nothing.
-use Prim.Native.Nat.{ℕ, _+_, _^_, _<_, _≤_}
+use Prim.Native.Nat.{ℕ, _^_, _<_, _≤_}
 use native.Mathlib.Omega.{arith}
 use mathlib.Core.Bool.{false}
-use mathlib.Core.List.{List, [], _++_}
-use mathlib.Core.Path.{_≡_, refl, sym, ap, _∙_}
+use mathlib.Core.List.{List}
+use mathlib.Core.Path.{_≡_, ap, _∙_}
 use borrow.Author.Tests.{le-ltb}
-use lib.ListN.{length, drop}
+use lib.ListN.{length}
 use Rattle.controller.specs.declared.Shown.{Shown}
 use Rattle.output.specs.declared.Written.{Written}
 use Rattle.output.specs.declared.Written.the-variants.{Bytes, NoRoom}
@@ -17,12 +17,11 @@ use Rattle.output.specs.Answers.{writtenSays}
 use Rattle.output.specs.Rows.{rowText, refusalText, written}
 use Rattle.common.proofs.Decimals.{decimal-length}
 use Rattle.output.proofs.Sizes.{row-length, row-at-most-49, refusal-length}
-use Rattle.lesson.specs.declared.Reading.{Reading}
-use Rattle.lesson.specs.declared.Did.{Did}
+use Rattle.reading.specs.declared.Heard.{Heard}
 use Rattle.lesson.specs.declared.Took.{Took}
-use Rattle.lesson.specs.Replay.{Given}
+use Rattle.lesson.specs.Replay.{textOf}
 use Rattle.lesson.specs.Parts.{ending, placed}
-use Rattle.lesson.specs.Writes.{bytesOf, inFront, did}
+use Rattle.lesson.specs.Writes.{bytesOf, inFront, told}
 
 pub row-fits : (label code : ℕ) (s : Shown) → label < 2 ^ 32 → code < 2 ^ 8 → length (rowText label code s) ≤ 64
 row-fits label code s l c =
@@ -54,34 +53,27 @@ wrote NoRoom buffer text out e h =
     let g : refuses 8 ≡ gives (length text) = f .0 in
     let z : _≡_ {A = ℕ} 0 1 = cc in absurd (omega arith)
 
--- A row was written.
-pub did-write : (reading : Reading) (w : Written) (n : ℕ) (buffer text out : List ℕ)
+-- A text was written.
+pub told-text : (w : Written) (n : ℕ) (buffer text out : List ℕ)
     → n ≡ bytesOf w
     → (writtenSays w, buffer) ≡ written text out
     → length text ≤ length out
-    → (record { reading = reading; written = n }, buffer) ≡ did (reading, text) out
-unfolding did
-did-write reading w n buffer text out e f h =
+    → (n, buffer) ≡ told text out
+told-text w n buffer text out e f h =
     let g = wrote w buffer text out f h in
-    ap (λ (m : ℕ). (record { reading = reading; written = m }, buffer)) (e ∙ g .0)
-    ∙ ap (λ (b : List ℕ). (record { reading = reading; written = length text }, b)) (g .1)
-
--- Nothing was written.
-pub did-none : (reading : Reading) (out : List ℕ) → (record { reading = reading; written = 0 }, out) ≡ did (reading, []) out
-unfolding did
-did-none reading out = refl
+    ap (λ (m : ℕ). (m, buffer)) (e ∙ g .0) ∙ ap (λ (b : List ℕ). (length text, b)) (g .1)
 
 -- The last row: what it writes stands in front of the output buffer.
-pub placed-did : (given : Given) (line out buffer : List ℕ) (d : Did) (t : Took)
-    → t ≡ record { refusal = 0; lesson = record { reading = d .reading; len = 0; cr = false }; written = d .written }
-    → (d, buffer) ≡ did given out
-    → (t, line, buffer) ≡ placed (ending given line) out
-unfolding did placed
-placed-did given line out buffer d t e f =
+pub placed-told : (heard : Heard) (line out buffer : List ℕ) (n : ℕ) (t : Took)
+    → t ≡ record { refusal = 0; lesson = record { reading = heard .reading; len = 0; cr = false }; written = n }
+    → (n, buffer) ≡ told (textOf heard) out
+    → (t, line, buffer) ≡ placed (ending heard line) out
+unfolding placed
+placed-told heard line out buffer n t e f =
     ap (λ (x : Took). (x, line, buffer)) e
     ∙ ap
-    (λ (x : Did × List ℕ). (
-      record { refusal = 0; lesson = record { reading = x .0 .reading; len = 0; cr = false }; written = x .0 .written },
+    (λ (x : ℕ × List ℕ). (
+      record { refusal = 0; lesson = record { reading = heard .reading; len = 0; cr = false }; written = x .0 },
       line,
       x .1,
     )) f

@@ -11,7 +11,7 @@ use Rattle.trace.specs.declared.Due.the-variants.{Label}
 use Rattle.trace.specs.Header.{headerText as traceHeader}
 use Rattle.controller.specs.Start.{freshOf}
 use Rattle.output.specs.Rows.{headerText, crlf}
-use Rattle.lesson.specs.declared.Phase.the-variants.{Rows}
+use Rattle.reading.specs.declared.Phase.the-variants.{Rows}
 use Rattle.lesson.specs.Replay.{writtenOf, replayOf}
 
 -- Rows that each end in CRLF.

@@ -6,17 +6,16 @@ use mathlib.Core.Bool.{Bool, false, cond, not, _||_}
 use mathlib.Core.List.{List, [], _++_}
 use lib.Dec.{eqb, ltb}
 use lib.ListN.{length, take, drop}
-use Rattle.lines.specs.Cuts.{cutOf, lastOf}
+use Rattle.lines.specs.Cuts.{cutOf}
 use Rattle.lines.specs.declared.Taken.{Taken}
 use Rattle.lines.specs.declared.Taken.the-variants.{Row, More, Over}
-use Rattle.lines.specs.declared.Final.{Final}
-use Rattle.lines.specs.declared.Final.the-variants.{Nothing, Last, Wider}
-use Rattle.lesson.specs.declared.Phase.{Phase}
-use Rattle.lesson.specs.declared.Phase.the-variants.{Header, Rows, Ended}
-use Rattle.lesson.specs.declared.Reading.{Reading}
+use Rattle.reading.specs.declared.Reading.{Reading}
+use Rattle.reading.specs.declared.Heard.{Heard}
+use Rattle.reading.specs.Lasts.{lastHeard}
+use Rattle.reading.specs.Rows.{rowOf, overOf, nothingRead}
 use Rattle.lesson.specs.declared.Lesson.{Lesson}
 use Rattle.lesson.specs.declared.Took.{Took}
-use Rattle.lesson.specs.Replay.{Given, lineOf, endsAt, rowOf, endOf, nothingRead}
+use Rattle.lesson.specs.Replay.{textOf}
 
 -- The run after a part of the input, the line buffer after it, and the text that is written.
 pub record Part : Type 0 where
@@ -30,27 +29,18 @@ newLesson = record { reading = nothingRead; len = 0; cr = false }
 
 -- ---- A part of the input
 
--- A row that does not fit the line buffer is over 512 bytes: refusal 6 on its line.
-abbrev pub overBy : Phase → Reading → Given
-overBy Header reading = endsAt 1 6 (reading .state)
-overBy (Rows due) reading = endsAt (lineOf due) 6 (reading .state)
-overBy (Ended line refusal) reading = (reading, [])
-
-unfoldable pub overOf : Reading → Given
-overOf reading = overBy (reading .phase) reading
-
 -- What cutting a row off gives, behind the text so far. A row that is whole is read, and `on` goes on behind it; where the
 -- part is used up, the row under way stays in the line buffer; after a row that is over nothing more is read.
 abbrev pub afterCut : (List ℕ → Reading → ℕ → List ℕ → Part) → List ℕ → Reading → Taken → List ℕ → Part
 afterCut on text reading (Row used len) line =
-    on (text ++ rowOf reading (take len line) .1) (rowOf reading (take len line) .0) used line
+    on (text ++ textOf (rowOf reading (take len line))) (rowOf reading (take len line) .reading) used line
 afterCut on text reading (More len cr) line =
     record { lesson = record { reading = reading; len = len; cr = cr }; line = line; text = text }
 afterCut on text reading Over line =
     record {
-      lesson = record { reading = overOf reading .0; len = 0; cr = false };
+      lesson = record { reading = overOf reading .reading; len = 0; cr = false };
       line = line;
-      text = text ++ overOf reading .1;
+      text = text ++ textOf (overOf reading);
     }
 
 -- The part from a place on, at most so many rows of it. (There are never more: each row ends at least one byte further on.)
@@ -67,21 +57,15 @@ partOf lesson part line = takenFrom (suc (length part)) part [] (lesson .reading
 
 -- ---- The end of the input
 
--- What is still in the line buffer is the last row.
-abbrev pub lastBy : Reading → Final → List ℕ → Given
-lastBy reading Nothing line = endOf reading
-lastBy reading (Last len) line = rowOf reading (take len line)
-lastBy reading Wider line = overOf reading
-
 -- Behind the last row no row is under way.
-abbrev pub ending : Given → List ℕ → Part
-ending given line = record { lesson = record { reading = given .0; len = 0; cr = false }; line = line; text = given .1 }
+abbrev pub ending : Heard → List ℕ → Part
+ending heard line =
+    record { lesson = record { reading = heard .reading; len = 0; cr = false }; line = line; text = textOf heard }
 
 -- The run after the end of the input.
 unfoldable pub lastPartOf : Lesson → List ℕ → Part
 lastPartOf lesson line =
-    ending (lastBy (lesson .reading) (lastOf line (lesson .len) (lesson .cr) .0) (lastOf line (lesson .len) (lesson .cr) .1))
-    (lastOf line (lesson .len) (lesson .cr) .1)
+    ending (lastHeard (lesson .reading) line (lesson .len) (lesson .cr) .0) (lastHeard (lesson .reading) line (lesson .len) (lesson .cr) .1)
 
 -- ---- The lent buffers
 

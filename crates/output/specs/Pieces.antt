@@ -1,23 +1,13 @@
--- A row is put together piece by piece in a line. What the private functions promise of it.
+-- A row is put together piece by piece in a line. Its pieces.
 -- Assumes nothing.
 use Prim.Native.Nat.{ℕ, _+_}
 use mathlib.Core.List.{List, [], _∷_, _++_}
-use mathlib.Core.Path.{_≡_}
-use lib.ListN.{length, take, drop}
 use Rattle.common.specs.Ascii.{comma, joinedByCommas}
 use Rattle.common.specs.Case.{bit}
 use Rattle.common.specs.Decimal.{decimal, digit0}
 use Rattle.controller.specs.declared.Lights.{Lights}
 use Rattle.controller.specs.declared.Shown.{Shown}
 use Rattle.output.specs.Rows.{crlf}
-
--- A piece of text was put at a place of a line, and `next` is the place after it: the text that stood before the place is followed by
--- the piece, and the bytes past it are as they were.
-pub record Put (before : List ℕ) (at : ℕ) (piece : List ℕ) (after : List ℕ) (next : ℕ) : Type 0 where
-  pub place : next ≡ at + length piece
-  pub size : length after ≡ length before
-  pub text : take next after ≡ take at before ++ piece
-  pub past : drop next after ≡ drop next before
 
 -- The first two fields of a row: a label or a line number, and 0 or the refusal.
 abbrev pub headPiece : ℕ → ℕ → List ℕ

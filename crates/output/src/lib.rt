@@ -3,13 +3,13 @@
 // A row is put together in a line of 64 bytes, piece by piece, and then handed to the lent buffer if there is room for it.
 ghost use mathlib.Core.Path.{_≡_};
 ghost use mathlib.Core.List.{_∷_, [], _++_};
-ghost use Prim.Native.Nat.{_+_, _≤_, _<_};
+ghost use Prim.Native.Nat.{_+_, _≤_};
 ghost use lib.ListN.{length};
 ghost use Rattle.common.specs.Ascii.{comma};
-ghost use Rattle.common.specs.Case.{bit};
-ghost use Rattle.common.specs.Decimal.{decimal, digit0};
+ghost use Rattle.common.specs.Decimal.{decimal};
+ghost use Rattle.texts.specs.Puts.{Put};
 ghost use Rattle.output.specs.Answers.{writtenSays};
-ghost use Rattle.output.specs.Pieces.{Put, headPiece, tailPiece, ordersPiece, lightsPiece};
+ghost use Rattle.output.specs.Pieces.{headPiece, tailPiece, ordersPiece, lightsPiece};
 ghost use Rattle.output.specs.Rows.{
   doorsWord,
   gearsWord,
@@ -30,62 +30,20 @@ pub enum Written {
     NoRoom,
 }
 
-// The byte of a digit.
-fn digit(d: u64) -> u8
-    requires { ⌜ d < 10 ⌝ }
-    ensures { λ r. ⌜ r ≡ digit0 + d ⌝ }
-{
-    b'0' + (d as u8)
-}
-
-// The byte of an order or a light.
-fn on_off(on: bool) -> u8
-    ensures { λ r. ⌜ r ≡ digit0 + bit on ⌝ }
-{
-    if on { b'1' } else { b'0' }
-}
-
-// How many digits a number has.
-fn width(n: u64) -> usize
-    ensures { λ r. ⌜ r ≡ length (decimal n) ⌝ }
-{
-    let mut digits = 1;
-    let mut rest = n;
-    while 10 <= rest {
-        rest = rest / 10;
-        digits += 1;
-    }
-    digits
-}
-
-// Puts a number into the line, its last digit first: the place after it.
+// Puts a number into the line, which has room for it: the place after it.
 fn put_number(line: &mut [u8], at: usize, n: u64) -> usize
     requires { ⌜ at + length (decimal n) ≤ length (now line) ⌝ }
     ensures { λ r. ⌜ Put (now (line .entry)) at (decimal n) (now (line .exit)) r ⌝ }
 {
-    let next = at + width(n);
-    let mut i = next;
-    let mut rest = n;
-    while 10 <= rest {
-        i -= 1;
-        line[i] = digit(rest % 10);
-        rest = rest / 10;
-    }
-    line[at] = digit(rest);
-    next
+    texts::put_number(line, at, n)
 }
 
-// Puts a piece of text into the line: the place after it.
+// Puts a piece of text into the line, which has room for it: the place after it.
 fn put(line: &mut [u8], at: usize, piece: &[u8]) -> usize
     requires { ⌜ at + length (now piece) ≤ length (now line) ⌝ }
     ensures { λ r. ⌜ Put (now (line .entry)) at (now (piece .entry)) (now (line .exit)) r ⌝ }
 {
-    let mut i = 0;
-    while i < piece.len() {
-        line[at + i] = piece[i];
-        i += 1;
-    }
-    at + i
+    texts::put(line, at, piece)
 }
 
 // Puts the doors' word and the comma after it into the line, which has room for the longest.
@@ -120,15 +78,15 @@ fn orders_piece(s: Shown) -> [u8; 11]
 {
     [
         b',',
-        on_off(s.general),
+        texts::on_off(s.general),
         b',',
-        on_off(s.closes),
+        texts::on_off(s.closes),
         b',',
-        on_off(s.opens),
+        texts::on_off(s.opens),
         b',',
-        on_off(s.retracts),
+        texts::on_off(s.retracts),
         b',',
-        on_off(s.extends),
+        texts::on_off(s.extends),
         b',',
     ]
 }
@@ -139,11 +97,11 @@ fn lights_piece(l: Lights) -> [u8; 8]
 {
     [
         b',',
-        on_off(l.green),
+        texts::on_off(l.green),
         b',',
-        on_off(l.orange),
+        texts::on_off(l.orange),
         b',',
-        on_off(l.red),
+        texts::on_off(l.red),
         b'\r',
         b'\n',
     ]

@@ -4,11 +4,9 @@
 ghost use mathlib.Core.Path.{_≡_};
 ghost use lib.ListN.{length};
 use lesson::Lesson;
-use lesson::Phase;
-use libc::STDERR_FILENO;
 use libc::STDIN_FILENO;
-use libc::STDOUT_FILENO;
 use output::Written;
+use reading::Phase;
 
 // A run after a turn, and whether to go on.
 struct After {
@@ -16,81 +14,23 @@ struct After {
     lesson: Lesson,
 }
 
-// Puts out the first n bytes, and answers whether that went well.
-fn put(out: &[u8], n: usize) -> bool {
-    if out.len() < n {
-        return false;
-    }
-    if io::write_all(STDOUT_FILENO, &out[..n]) {
-        return true;
-    }
-    io::write_all(STDERR_FILENO, b"replay: writing failed\n");
-    false
-}
-
-// Whether a lone LF stands in the line buffer.
-fn has_lf(line: &[u8]) -> bool {
-    let mut found = false;
-    let mut i = 0;
-    while i < line.len() {
-        found = found | (line[i] == 10);
-        i += 1;
-    }
-    found
-}
-
-// What a refusal means, for a person.
-fn tell_refusal(line: u64, refusal: u8) {
-    io::write_all(STDERR_FILENO, b"replay: line ");
-    io::print_decimal(STDERR_FILENO, line);
-    io::write_all(STDERR_FILENO, b", refusal ");
-    io::print_decimal(STDERR_FILENO, refusal as u64);
-    match refusal {
-        6 => io::write_all(STDERR_FILENO, b": the row is over 512 bytes"),
-        7 => io::write_all(STDERR_FILENO, b": the label is not the one due"),
-        _ => io::write_all(STDERR_FILENO, b": the row breaks the form of a trace"),
-    }
-    ;
-}
+// The name that this program goes by on standard error.
+const NAME: [u8; 6] = *b"replay";
 
 // On standard error, in one line, what ended the reading before the end of the input, if anything did.
-fn tell(lesson: Lesson, buffer: &[u8]) {
-    let phase = lesson.phase();
+fn tell(phase: Phase, buffer: &[u8]) {
     let Phase::Ended { line, refusal } = phase else {
         return;
     };
-    tell_refusal(line, refusal);
-    if line == 1 {
-        io::write_all(STDERR_FILENO, b"; a trace begins with its header");
-        if has_lf(buffer) {
-            io::write_all(
-                STDERR_FILENO,
-                b", and its rows end in CRLF: here a bare LF was seen",
-            );
-        }
-    }
-    io::write_all(STDERR_FILENO, b"\n");
-}
-
-// Whether a refusal has ended the reading.
-fn has_ended(lesson: Lesson) -> bool {
-    let phase = lesson.phase();
-    match phase {
-        Phase::Header => false,
-        Phase::Rows(_) => false,
-        Phase::Ended {
-            line: _,
-            refusal: _,
-        } => true,
-    }
+    words::refused(&NAME, line, refusal, buffer);
 }
 
 // The end of the input: what is still to be written, and what ended the reading.
 fn end(lesson: Lesson, line: &mut [u8], out: &mut [u8]) {
     let took = lesson.finish(line, out);
     let next = took.lesson;
-    if put(out, took.written) {
-        tell(next, line);
+    if words::put(&NAME, out, took.written) {
+        tell(next.phase(), line);
     }
 }
 
@@ -98,7 +38,7 @@ fn end(lesson: Lesson, line: &mut [u8], out: &mut [u8]) {
 fn turn(lesson: Lesson, input: &mut [u8], line: &mut [u8], out: &mut [u8]) -> After {
     let got = libc::read(STDIN_FILENO, input);
     if got < 0 {
-        io::write_all(STDERR_FILENO, b"replay: reading failed\n");
+        words::say(&NAME, b"reading failed");
         return After { on: false, lesson };
     }
     let n = io::count(got, input);
@@ -108,14 +48,15 @@ fn turn(lesson: Lesson, input: &mut [u8], line: &mut [u8], out: &mut [u8]) -> Af
     }
     let took = lesson.take(&input[..n], line, out);
     let next = took.lesson;
-    if !put(out, took.written) {
+    if !words::put(&NAME, out, took.written) {
         return After {
             on: false,
             lesson: next,
         };
     }
-    if has_ended(next) {
-        tell(next, line);
+    let phase = next.phase();
+    if phase.has_ended() {
+        tell(phase, line);
         return After {
             on: false,
             lesson: next,
@@ -161,7 +102,7 @@ fn put_header(out: &mut [u8]) -> bool {
     let Written::Bytes(n) = header else {
         return false;
     };
-    put(out, n)
+    words::put(&NAME, out, n)
 }
 
 fn main() {

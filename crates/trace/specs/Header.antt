@@ -2,22 +2,14 @@
 -- Assumes nothing.
 use Prim.Native.Nat.{ℕ}
 use mathlib.Core.Bool.{Bool, true, false, _&&_}
-use mathlib.Core.List.{List, [], _∷_, _++_}
+use mathlib.Core.List.{List, [], _∷_}
 use lib.Dec.{eqb}
 use Rattle.common.specs.Ascii.{ascii, joinedByCommas}
-
--- A name with `_front`, `_left`, `_right`.
-abbrev pub frontLeftRight : List ℕ → List (List ℕ)
-frontLeftRight name = (name ++ ascii "_front") ∷ (name ++ ascii "_left") ∷ (name ++ ascii "_right") ∷ []
+use Rattle.common.specs.Names.{sensorNames}
 
 -- `step,stamp` and the 18 sensor names, in the order of "The sample".
 unfoldable pub headerNames : List (List ℕ)
-headerNames =
-    ascii "step" ∷ ascii "stamp" ∷
-    ascii "handle" ∷ ascii "analogical_switch" ∷
-    (frontLeftRight (ascii "gear_extended") ++ frontLeftRight (ascii "gear_retracted") ++
-    frontLeftRight (ascii "gear_shock_absorber") ++ frontLeftRight (ascii "door_closed") ++
-    frontLeftRight (ascii "door_open") ++ ascii "circuit_pressurized" ∷ [])
+headerNames = ascii "step" ∷ ascii "stamp" ∷ sensorNames
 
 -- The header: these names with a comma between each two.
 unfoldable pub headerText : List ℕ

@@ -1,4 +1,5 @@
-//! `peer-bench REPS REPLAY PEER DIR`: both programs on the same long nominal traces, files in DIR.
+//! `peer-bench REPS REPLAY WAVES BIN DIR`: REPLAY and the peer's in BIN on the same long nominal
+//! traces, then WAVES (`-` for none) and the peer's on the longest; files in DIR.
 use peer::gen::{trace, KINDS};
 use std::fs::File;
 use std::path::Path;
@@ -28,39 +29,55 @@ fn memory(program: &str, input: &Path, dir: &Path) -> Option<u64> {
     std::fs::read_to_string(report).ok()?.trim().parse().ok()
 }
 
-fn bench(reps: usize, programs: [&str; 2], dir: &Path) -> std::io::Result<bool> {
+/// Programs, each with its name, on one trace, the peer's last. True if their outputs are equal.
+fn measure(reps: usize, programs: &[(&str, &str)], rows: u64, dir: &Path) -> std::io::Result<bool> {
+    let input = dir.join("trace.in");
+    // Untimed, to warm up and to compare; then timed in turn, with the output thrown away.
+    let mut outputs = Vec::new();
+    for (_, program) in programs {
+        run(Command::new(program), &input, &dir.join("out"))?;
+        outputs.push(std::fs::read(dir.join("out"))?);
+    }
+    let count = programs.len();
+    let mut best = vec![f64::MAX; count];
+    for turn in 0..count * reps {
+        let n = (turn + turn / count) % count;
+        best[n] = best[n].min(run(Command::new(programs[n].1), &input, Path::new("/dev/null"))?);
+    }
+    for (n, (name, program)) in programs.iter().enumerate() {
+        let kb = memory(program, &input, dir).map_or("?".into(), |kb| kb.to_string());
+        let (rate, ratio) = (rows as f64 / best[n], best[n] / best[count - 1]);
+        println!("{rows:>9}  {name:11} {:>7.4} {rate:>12.0} {ratio:>7.2} {kb:>10}", best[n]);
+    }
+    Ok(outputs.windows(2).all(|pair| pair[0] == pair[1]))
+}
+
+fn bench(reps: usize, replay: &str, waves: &str, bin: &Path, dir: &Path) -> std::io::Result<bool> {
+    let peer = |name: &str| bin.join(name).to_string_lossy().into_owned();
+    let (peer_replay, peer_waves) = (peer("peer-replay"), peer("peer-waves"));
     println!("     rows  program      best s       rows/s   ratio  memory KB");
     let mut equal = true;
     for rows in SIZES {
-        let input = dir.join("trace.in");
-        std::fs::write(&input, trace(2014, KINDS[0], Some(rows)).unwrap())?;
-        // Untimed, to warm up and to compare; then timed in turn, with the output thrown away.
-        for (n, program) in programs.iter().enumerate() {
-            run(Command::new(program), &input, &dir.join(format!("out{n}")))?;
-        }
-        equal &= std::fs::read(dir.join("out0"))? == std::fs::read(dir.join("out1"))?;
-        let mut best = [f64::MAX; 2];
-        for turn in 0..2 * reps {
-            let n = (turn + turn / 2) % 2;
-            best[n] = best[n].min(run(Command::new(programs[n]), &input, Path::new("/dev/null"))?);
-        }
-        for (n, name) in ["REPLAY", "peer"].iter().enumerate() {
-            let kb = memory(programs[n], &input, dir).map_or("?".into(), |kb| kb.to_string());
-            let (rate, ratio) = (rows as f64 / best[n], best[n] / best[1]);
-            println!("{rows:>9}  {name:8} {:>10.4} {rate:>12.0} {ratio:>7.2} {kb:>10}", best[n]);
-        }
+        std::fs::write(dir.join("trace.in"), trace(2014, KINDS[0], Some(rows)).unwrap())?;
+        equal &= measure(reps, &[("REPLAY", replay), ("peer", &peer_replay)], rows, dir)?;
     }
+    let both = [("WAVES", waves), ("peer-waves", &peer_waves)];
+    let programs = if waves == "-" { &both[1..] } else { &both[..] };
+    equal &= measure(reps, programs, SIZES[2], dir)?;
     println!("ratio: time over the peer's; outputs {}", if equal { "equal" } else { "DIFFERENT" });
+    if waves == "-" {
+        println!("WAVES left out");
+    }
     Ok(equal)
 }
 
 fn main() -> ExitCode {
     let args: Vec<String> = std::env::args().skip(1).collect();
-    let [reps, replay, peer, dir] = &args[..] else {
-        eprintln!("usage: peer-bench REPS REPLAY PEER DIR");
+    let [reps, replay, waves, bin, dir] = &args[..] else {
+        eprintln!("usage: peer-bench REPS REPLAY WAVES BIN DIR");
         return ExitCode::from(2);
     };
-    match bench(reps.parse().unwrap_or(3).max(1), [replay, peer], Path::new(dir)) {
+    match bench(reps.parse().unwrap_or(3).max(1), replay, waves, Path::new(bin), Path::new(dir)) {
         Ok(true) => ExitCode::SUCCESS,
         Ok(false) => ExitCode::FAILURE,
         Err(e) => {

@@ -1,12 +1,15 @@
 //! `peer-faults DIR`: which stored vector each fault changes first, as a markdown table.
 //! `peer-faults --seeds SEED COUNT`: how many of COUNT random traces each fault changes.
+//! `peer-faults --dumps DIR`, `peer-faults --dump-seeds SEED COUNT`: the same for request K2, a table for
+//! the writer of dumps and one for the reader.
+use peer::damage::{dump, DUMP_KINDS};
+use peer::dump::{moments, sheet_bytes, waves_bytes, write};
+use peer::dump_vectors::{stored_dumps, Vector};
 use peer::gen::{trace, KINDS};
-use peer::rules::{faults, unseen, Rules};
+use peer::rules::{faults, sheet_faults, unseen, wave_faults, Rules};
 use peer::trace::replay_bytes;
+use std::path::Path;
 use std::process::ExitCode;
-
-/// Name, input, output.
-type Vector = (String, Vec<u8>, Vec<u8>);
 
 fn stored(dir: &str) -> std::io::Result<Vec<Vector>> {
     let mut all = Vec::new();
@@ -21,53 +24,86 @@ fn stored(dir: &str) -> std::io::Result<Vec<Vector>> {
     Ok(all)
 }
 
-fn main() -> ExitCode {
-    let args: Vec<String> = std::env::args().skip(1).collect();
-    let args: Vec<&str> = args.iter().map(String::as_str).collect();
-    let rules = Rules::default();
-    let traces: Vec<Vector> = match args[..] {
-        ["--seeds", seed, count] => {
-            let (seed, count): (u64, u64) = (seed.parse().unwrap_or(1), count.parse().unwrap_or(1));
-            (seed..seed + count)
-                .map(|seed| {
-                    let kind = KINDS[(seed % KINDS.len() as u64) as usize];
-                    let input = trace(seed, kind, None).unwrap();
-                    let output = replay_bytes(&rules, &input).0;
-                    (format!("{kind} {seed}"), input, output)
-                })
-                .collect()
-        }
-        [dir] => match stored(dir) {
-            Ok(all) => all,
-            Err(e) => {
-                eprintln!("{dir}: {e}");
-                return ExitCode::from(2);
+fn replay(r: &Rules, trace: &[u8]) -> Vec<u8> {
+    replay_bytes(r, trace).0
+}
+
+fn waves(r: &Rules, trace: &[u8]) -> Vec<u8> {
+    waves_bytes(r, trace).0
+}
+
+fn sheet(r: &Rules, dump: &[u8]) -> Vec<u8> {
+    sheet_bytes(r, dump).0
+}
+
+/// The values of a good dump, written again.
+fn again(r: &Rules, dump: &[u8]) -> Vec<u8> {
+    write(r, &moments(&Rules::default(), dump).unwrap_or_default())
+}
+
+fn is_good(dump: &[u8]) -> bool {
+    moments(&Rules::default(), dump).is_ok()
+}
+
+/// A program and the vectors that are put through it.
+struct Suite {
+    program: fn(&Rules, &[u8]) -> Vec<u8>,
+    vectors: Vec<Vector>,
+}
+
+impl Suite {
+    /// The first vector that these rules change, and how many they change.
+    fn changed(&self, rules: &Rules) -> Option<(&str, usize)> {
+        let mut changed = self.vectors.iter().filter(|v| (self.program)(rules, &v.1) != v.2);
+        changed.next().map(|first| (&first.0[..], 1 + changed.count()))
+    }
+
+    /// How many outputs are not what the peer writes.
+    fn wrong(&self) -> usize {
+        let mut wrong = 0;
+        for (name, input, output) in &self.vectors {
+            if (self.program)(&Rules::default(), input) != *output {
+                eprintln!("{name}: what is stored is not what the peer writes");
+                wrong += 1;
             }
-        },
-        _ => {
-            eprintln!("usage: peer-faults DIR | peer-faults --seeds SEED COUNT");
-            return ExitCode::from(2);
         }
-    };
-    let mut wrong = 0;
-    for (name, input, output) in &traces {
-        if replay_bytes(&rules, input).0 != *output {
-            eprintln!("{name}: the stored output is not what the peer writes");
-            wrong += 1;
+        wrong
+    }
+
+    /// Prints the table of these faults; how many are caught by none. A fault that changes no vector
+    /// is looked for in the dumps written again, if there are any.
+    fn table(&self, faults: &[(String, Rules)], again: Option<&Suite>) -> usize {
+        println!("| fault | first changed | changed of {} |\n|---|---|---|", self.vectors.len());
+        let mut missed = 0;
+        for (name, rules) in faults {
+            if let Some((first, count)) = self.changed(rules) {
+                println!("| {name} | {first} | {count} |");
+            } else if let Some((again, (first, count))) = again.and_then(|s| Some((s, s.changed(rules)?))) {
+                let all = again.vectors.len();
+                println!("| {name} | {first}, written again | 0; {count} of {all} written again |");
+            } else {
+                println!("| {name} | **none** | 0 |");
+                missed += 1;
+            }
         }
+        missed
     }
-    println!("| fault | first changed | changed of {} |\n|---|---|---|", traces.len());
-    let mut missed = 0;
-    for (name, rules) in faults() {
-        let mut caught = traces.iter().filter(|t| replay_bytes(&rules, &t.1).0 != t.2);
-        let first = caught.next().map(|t| t.0.clone());
-        missed += usize::from(first.is_none());
-        let count = usize::from(first.is_some()) + caught.count();
-        println!("| {name} | {} | {count} |", first.unwrap_or("**none**".into()));
+}
+
+fn status(wrong: usize) -> ExitCode {
+    match wrong {
+        0 => ExitCode::SUCCESS,
+        _ => ExitCode::FAILURE,
     }
+}
+
+fn traces(vectors: Vec<Vector>) -> ExitCode {
+    let suite = Suite { program: replay, vectors };
+    let mut wrong = suite.wrong();
+    let missed = suite.table(&faults(), None);
     for (name, rules) in unseen() {
-        if let Some(t) = traces.iter().find(|t| replay_bytes(&rules, &t.1).0 != t.2) {
-            eprintln!("{name} is held to be unseen, yet {} shows it", t.0);
+        if let Some((first, _)) = suite.changed(&rules) {
+            eprintln!("{name} is held to be unseen, yet {first} shows it");
             wrong += 1;
         }
     }
@@ -76,9 +112,85 @@ fn main() -> ExitCode {
         unseen().into_iter().map(|f| f.0).collect::<Vec<_>>().join(", ")
     );
     println!("{} faults, {missed} caught by none.", faults().len());
-    if missed + wrong == 0 {
-        ExitCode::SUCCESS
-    } else {
-        ExitCode::FAILURE
+    status(missed + wrong)
+}
+
+/// Traces with their dumps, dumps with their sheets; of the dumps, `good` are also written again.
+fn dumps(traces: Vec<Vector>, good: Vec<Vector>, dumps: Vec<Vector>) -> ExitCode {
+    let writer = Suite { program: waves, vectors: traces };
+    let rewriter = Suite { program: again, vectors: good };
+    let reader = Suite { program: sheet, vectors: dumps };
+    let wrong = writer.wrong() + rewriter.wrong() + reader.wrong();
+    let of_writer = writer.table(&wave_faults(), Some(&rewriter));
+    println!("\n{} faults of the writer, {of_writer} caught by none.\n", wave_faults().len());
+    let of_reader = reader.table(&sheet_faults(), None);
+    println!("\n{} faults of the reader, {of_reader} caught by none.", sheet_faults().len());
+    status(wrong + of_writer + of_reader)
+}
+
+fn kind_of(seed: u64, kinds: &[&'static str]) -> &'static str {
+    kinds[(seed % kinds.len() as u64) as usize]
+}
+
+/// A trace that `compare` would make.
+fn seeded(seed: u64, program: fn(&Rules, &[u8]) -> Vec<u8>) -> Vector {
+    let kind = kind_of(seed, &KINDS);
+    let input = trace(seed, kind, None).unwrap();
+    let output = program(&Rules::default(), &input);
+    (format!("{kind} {seed}"), input, output)
+}
+
+/// The traces and dumps that `compare` would make.
+fn seeded_dumps(seeds: std::ops::Range<u64>) -> ExitCode {
+    let (mut runs, mut good, mut made) = (Vec::new(), Vec::new(), Vec::new());
+    let with_sheet = |name: String, dump: Vec<u8>| {
+        let rows = sheet(&Rules::default(), &dump);
+        (name, dump, rows)
+    };
+    for seed in seeds {
+        let run = seeded(seed, waves);
+        made.push(with_sheet(format!("{}, its dump", run.0), run.2.clone()));
+        runs.push(run);
+        let kind = kind_of(seed, &DUMP_KINDS);
+        let drawn = dump(seed, kind).unwrap();
+        if is_good(&drawn) {
+            good.push((format!("{kind} {seed}"), drawn.clone(), drawn.clone()));
+        }
+        made.push(with_sheet(format!("{kind} {seed}"), drawn));
+    }
+    dumps(runs, good, made)
+}
+
+fn range(seed: &str, count: &str) -> std::ops::Range<u64> {
+    let (seed, count): (u64, u64) = (seed.parse().unwrap_or(1), count.parse().unwrap_or(1));
+    seed..seed + count
+}
+
+fn main() -> ExitCode {
+    let args: Vec<String> = std::env::args().skip(1).collect();
+    let args: Vec<&str> = args.iter().map(String::as_str).collect();
+    let unread = |dir: &str, e: std::io::Error| {
+        eprintln!("{dir}: {e}");
+        ExitCode::from(2)
+    };
+    match args[..] {
+        ["--seeds", seed, count] => traces(range(seed, count).map(|seed| seeded(seed, replay)).collect()),
+        ["--dump-seeds", seed, count] => seeded_dumps(range(seed, count)),
+        ["--dumps", dir] => match stored_dumps(Path::new(dir)) {
+            Ok(all) => {
+                let good = all.dumps.iter().filter(|v| is_good(&v.1));
+                let good = good.map(|v| (v.0.clone(), v.1.clone(), v.1.clone())).collect();
+                dumps(all.traces, good, all.dumps)
+            }
+            Err(e) => unread(dir, e),
+        },
+        [dir] if !dir.starts_with("--") => match stored(dir) {
+            Ok(all) => traces(all),
+            Err(e) => unread(dir, e),
+        },
+        _ => {
+            eprintln!("usage: peer-faults DIR | --seeds SEED COUNT | --dumps DIR | --dump-seeds SEED COUNT");
+            ExitCode::from(2)
+        }
     }
 }

@@ -8,10 +8,10 @@ use Rattle.cases.proofs.arguments.Statement.{statement}
 use Rattle.cases.proofs.arguments.Tie as tie
 
 abbrev Inv-loop : tie.InvT-loop
-Inv-loop input₀ small₀ line₀ out₀ stored₀ count i₀ input small line out stored i = (length input ≡ length input₀) × (length small ≡ length small₀) × (length line ≡ length line₀) × (length out ≡ length out₀) × (length stored ≡ length stored₀)
+Inv-loop input₀ small₀ out₀ count i₀ input small out i = (length input ≡ length input₀) × (length small ≡ length small₀) × (length out ≡ length out₀)
 
 abbrev μ-loop : tie.MeasureT-loop
-μ-loop input₀ small₀ line₀ out₀ stored₀ count i₀ input small line out stored i = count - i
+μ-loop input₀ small₀ out₀ count i₀ input small out i = count - i
 
 arg-count-requires : tie.Need-arg-count-requires Inv-loop μ-loop
 arg-count-requires c κs = search needs
@@ -40,12 +40,6 @@ same-length-2 c = search needs
 same-length-3 : tie.Need-same-length-3 Inv-loop μ-loop
 same-length-3 c = search needs
 
-same-length-4 : tie.Need-same-length-4 Inv-loop μ-loop
-same-length-4 c = search needs
-
-same-length-5 : tie.Need-same-length-5 Inv-loop μ-loop
-same-length-5 c = search needs
-
 returns : tie.Need-returns Inv-loop μ-loop
 returns c = search needs
 
@@ -64,6 +58,4 @@ arguments-spec =
     same-length
     same-length-2
     same-length-3
-    same-length-4
-    same-length-5
     returns)

@@ -3,7 +3,7 @@
 use borrow.Author.Needs.{needs}
 use borrow.Author.Tests.{lt-ltb, le-ltb}
 use Rattle.output.specs.Rows.{written}
-use Rattle.output.proofs.Placing.{front-next, front-line}
+use Rattle.texts.proofs.Placing.{front-next, front-line}
 use Rattle.output.proofs.hand_over.Statement.{statement}
 use Rattle.output.proofs.hand_over.Tie as tie
 

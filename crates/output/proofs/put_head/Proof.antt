@@ -6,7 +6,7 @@ use borrow.Author.Needs.{needs}
 use Rattle.common.specs.Ascii.{comma}
 use Rattle.common.specs.Decimal.{decimal}
 use Rattle.common.proofs.Decimals.{decimal-length}
-use Rattle.output.proofs.Placing.{then, same-piece}
+use Rattle.texts.proofs.Placing.{then, same-piece}
 use Rattle.output.proofs.put_head.Statement.{statement}
 use Rattle.output.proofs.put_head.Tie as tie
 

@@ -2,7 +2,7 @@
 -- Assumes nothing.
 use native.Mathlib.Omega.{arith}
 use borrow.Author.Needs.{needs}
-use Rattle.output.proofs.Placing.{then, same-piece}
+use Rattle.texts.proofs.Placing.{then, same-piece}
 use Rattle.output.proofs.Texts.{shown-text}
 use Rattle.output.proofs.put_shown.Statement.{statement}
 use Rattle.output.proofs.put_shown.Tie as tie

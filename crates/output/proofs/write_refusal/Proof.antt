@@ -8,7 +8,7 @@ use lib.ListN.{length-take}
 use borrow.Author.Needs.{needs}
 use Rattle.common.specs.Ascii.{joinedByCommas}
 use Rattle.output.specs.Rows.{written}
-use Rattle.output.proofs.Placing.{then}
+use Rattle.texts.proofs.Placing.{then}
 use Rattle.output.proofs.Texts.{refusal-text}
 use Rattle.output.proofs.write_refusal.Statement.{statement}
 use Rattle.output.proofs.write_refusal.Tie as tie

@@ -7,7 +7,7 @@ use mathlib.Core.Path.{sym, ap, _∙_}
 use lib.ListN.{length-take}
 use borrow.Author.Needs.{needs}
 use Rattle.output.specs.Rows.{written}
-use Rattle.output.proofs.Placing.{then}
+use Rattle.texts.proofs.Placing.{then}
 use Rattle.output.proofs.Texts.{row-text}
 use Rattle.output.proofs.write_row.Statement.{statement}
 use Rattle.output.proofs.write_row.Tie as tie

@@ -6,7 +6,7 @@ use native.Mathlib.Omega.{arith}
 use mathlib.Core.List.{_++_}
 use mathlib.Core.Path.{sym, _∙_}
 use borrow.Author.Needs.{needs}
-use lib.ListN.{length, take, drop}
+use lib.ListN.{length, take, drop, length-take}
 use Rattle.lines.specs.Cuts.{rowsFrom}
 use Rattle.lines.proofs.Law.{RowTold, row-law}
 use Rattle.lesson.specs.Parts.{partOf}
@@ -45,11 +45,19 @@ row-told u =
     let a = x .before .before .before .before .before .before .before .args in
     row-law (a .part .now) (l .from) (l .line) (l .len) (l .cr) (x .cut .ensures) (u .used .given .1)
 
-row-at-requires : tie.Need-row-at-requires Inv-loop μ-loop
-row-at-requires c κs =
-    let t = row-told (c .before .before .before) in
-    let l = c .before .before .before .before .before .before .before .before .before .loop in
-    (t .fits, omega (arith, l .inv .short, l .inv .inside, l .inv .long))
+slice-reshare-prefix-row : tie.Need-slice-reshare-prefix-row Inv-loop μ-loop
+slice-reshare-prefix-row c = row-told (c .before) .fits
+
+slice-aggregate-row : tie.Need-slice-aggregate-row Inv-loop μ-loop
+slice-aggregate-row c = simp length-take (omega (arith, row-told (c .before .before) .fits))
+
+row-requires : tie.Need-row-requires Inv-loop μ-loop
+row-requires c κs = search needs
+
+tell-at-requires : tie.Need-tell-at-requires Inv-loop μ-loop
+tell-at-requires c κs =
+    let l = c .before .before .before .before .before .before .before .before .before .before .loop in
+    omega (arith, l .inv .short, l .inv .inside, l .inv .long)
 
 -- A row that is written at the place reached stays within a `usize`.
 at-fits : (x : tie.After-cut Inv-loop μ-loop) → x .before .before .loop .at + 64 < 2 ^ 64
@@ -60,9 +68,9 @@ at-fits x =
 
 add-at : tie.Need-add-at Inv-loop μ-loop
 add-at c =
-    let d = c .before .before .before .before in
-    let x = d .before .before .before .before .before .before .before .before in
-    record { fits = omega (arith, at-fits x, d .row-at .ensures .short) }
+    let d = c .before .before in
+    let x = d .before .before .before .before .before .before .before .before .before in
+    record { fits = omega (arith, at-fits x, d .tell-at .ensures .short) }
 
 loop-less : tie.Need-loop-less Inv-loop μ-loop
 loop-less c =
@@ -70,10 +78,12 @@ loop-less c =
 
 loop-again : tie.Need-loop-again Inv-loop μ-loop
 loop-again c =
-    let d = c .before .before .before .before in
-    let u = d .before .before .before .before in
+    let d = c .before .before .before in
+    let r = d .before .before in
+    let u = r .before .before .before in
     let x = u .before .before .before .before in
-    after-row (x .before .before .loop .inv) (x .cut .ensures) (u .used .given .1) (d .row-at .ensures) (d .row-at .kept .1 .1 .1 .0)
+    after-row (x .before .before .loop .inv) (x .cut .ensures) (u .used .given .1) (r .row .ensures) (d .tell-at .ensures)
+    (d .tell-at .kept .1 .0)
 
 enum-known-n : tie.Need-enum-known-n Inv-loop μ-loop
 enum-known-n c = search needs
@@ -97,14 +107,17 @@ returns c =
 enum-told : tie.Need-enum-told Inv-loop μ-loop
 enum-told c = search needs
 
-over-at-requires : tie.Need-over-at-requires Inv-loop μ-loop
-over-at-requires c κs = search needs
+over-requires : tie.Need-over-requires Inv-loop μ-loop
+over-requires c κs = search needs
+
+tell-at-requires-2 : tie.Need-tell-at-requires-2 Inv-loop μ-loop
+tell-at-requires-2 c κs = search needs
 
 add-taken-in : tie.Need-add-taken-in Inv-loop μ-loop
 add-taken-in c =
-    let d = c .before .before .before in
-    let x = d .before .before .before .before .before .before in
-    record { fits = omega (arith, at-fits x, d .over-at .ensures .short) }
+    let d = c .before .before in
+    let x = d .before .before .before .before .before .before .before in
+    record { fits = omega (arith, at-fits x, d .tell-at2 .ensures .short) }
 
 taken-in-requires-2 : tie.Need-taken-in-requires-2 Inv-loop μ-loop
 taken-in-requires-2 c κs = search needs
@@ -116,19 +129,20 @@ same-length-3 c =
 
 same-length-4 : tie.Need-same-length-4 Inv-loop μ-loop
 same-length-4 c =
-    let d = c .before .before .before .before in
-    let x = d .before .before .before .before .before .before in
-    d .over-at .kept .1 .0 ∙ x .before .before .loop .inv .long
+    let d = c .before .before .before in
+    let x = d .before .before .before .before .before .before .before in
+    d .tell-at2 .kept .1 .0 ∙ x .before .before .loop .inv .long
 
 returns-2 : tie.Need-returns-2 Inv-loop μ-loop
 returns-2 c =
-    let d = c .before .before .before .before in
-    let m = d .before .before in
+    let d = c .before .before .before in
+    let o = d .before .before in
+    let m = o .before in
     let x = m .before .before .before .before in
     let s = x .before .before .before .before .before .before .before in
     rw (c .taken-in2 .ensures)
-    (after-over (x .before .before .loop .inv) (x .cut .ensures) (m .enum-told .given .1) (s .pre .1) (d .over-at .ensures)
-    (d .over-at .kept .1 .0))
+    (after-over (x .before .before .loop .inv) (x .cut .ensures) (m .enum-told .given .1) (s .pre .1) (o .over .ensures)
+    (d .tell-at2 .ensures) (d .tell-at2 .kept .1 .0))
 
 pub take-all-spec : {M : Type 1} → statement M
 take-all-spec =
@@ -139,7 +153,10 @@ take-all-spec =
     loop-holds
     cut-requires
     enum-known-used
-    row-at-requires
+    slice-reshare-prefix-row
+    slice-aggregate-row
+    row-requires
+    tell-at-requires
     add-at
     loop-less
     loop-again
@@ -149,7 +166,8 @@ take-all-spec =
     same-length-2
     returns
     enum-told
-    over-at-requires
+    over-requires
+    tell-at-requires-2
     add-taken-in
     taken-in-requires-2
     same-length-3

@@ -1,0 +1,4 @@
+pub mod Law
+pub mod Lines
+pub mod Once
+pub mod Worked

@@ -1,0 +1,5 @@
+pub mod Cases
+pub mod Dumps
+pub mod Runs
+pub mod Wires
+pub mod Writes

@@ -1,0 +1,176 @@
+-- What is written from a reading on is the dump of the moments to come, and their times rise: before row 0 the whole dump, and from
+-- row 0 on what follows the moments so far. By induction over the rows.
+-- Assumes nothing.
+use Prim.Native.Nat.{ℕ}
+use mathlib.Core.List.{List, [], _∷_, _++_}
+use mathlib.Core.Logic.{_⊎_, inl, inr}
+use mathlib.Core.Path.{_≡_, refl, ap}
+use Rattle.trace.specs.declared.Due.the-variants.{Label}
+use Rattle.controller.specs.declared.State.{State}
+use Rattle.reading.specs.declared.Phase.{Phase}
+use Rattle.reading.specs.declared.Phase.the-variants.{Header, Rows, Ended}
+use Rattle.reading.specs.declared.Reading.{Reading}
+use Rattle.reading.specs.Rows.{endsAt, rowOf, endOf}
+use Rattle.reading.specs.Ends.{Silent}
+use Rattle.reading.proofs.Ends.{after-refusal}
+use Rattle.dump.specs.declared.Dump.{Dump}
+use Rattle.dump.specs.Dumps.{Moment, RisesFrom, Rising, headText, momentText, laterText, dumpOf}
+use Rattle.dump.specs.Writes.{startsWith}
+use Rattle.dumping.specs.Moments.{adds, timeAfter, momentsFrom}
+use Rattle.dumping.specs.Parts.{Given, given, fromRows}
+use Rattle.dumping.proofs.Turns.{Quiet, untold-quiet, ended-quiet, Running, Turn, turn, Started, FirstTurn, first-turn, HeaderTurn, header-turn}
+use Rattle.dumping.proofs.Turns.Turn.{stays, moves}
+use Rattle.dumping.proofs.Turns.FirstTurn.{ends, starts}
+use Rattle.dumping.proofs.Turns.HeaderTurn.{ends as fails, opens}
+
+-- ---- One row more
+
+module _ (reading : Reading) (dump : Dump) (row : List ℕ) (rows : List (List ℕ)) where
+  -- The text of a row, and then what is written from the dump after it on.
+  row-text : {after : Dump} {text : List ℕ} → given dump (reading .state) (rowOf reading row) ≡ (after, text)
+      → fromRows reading dump (row ∷ rows) ≡ text ++ fromRows (rowOf reading row .reading) after rows
+  unfolding fromRows
+  row-text e = rw e
+
+  -- The moments that a row adds, and then those after them.
+  row-moments : {ms : List Moment} → adds (dump .time) reading (rowOf reading row) ≡ ms
+      → momentsFrom (dump .time) reading (row ∷ rows) ≡ ms ++ momentsFrom (timeAfter (dump .time) ms) (rowOf reading row .reading) rows
+  unfolding momentsFrom
+  row-moments e = rw e
+
+-- Of the end of the input nothing is written.
+end-in : (phase : Phase) (state : State) (dump : Dump) → given dump state (endOf (record { phase = phase; state = state })) ≡ (dump, [])
+unfolding endOf given endsAt
+end-in Header state dump = refl
+end-in (Rows due) state dump = refl
+end-in (Ended line refusal) state dump = refl
+
+pub end-told : (reading : Reading) (dump : Dump) → given dump (reading .state) (endOf reading) ≡ (dump, [])
+end-told reading dump = end-in (reading .phase) (reading .state) dump
+
+pub end-text : (reading : Reading) (dump : Dump) → fromRows reading dump [] ≡ []
+unfolding fromRows
+end-text reading dump = ap (λ (g : Given). g .1) (end-told reading dump)
+
+-- ---- From row 0 on
+
+-- What is written is what follows the moments so far, and the times rise.
+record Onward (reading : Reading) (dump : Dump) (rows : List (List ℕ)) : Type 0 where
+  text : fromRows reading dump rows ≡ laterText (dump .values) (momentsFrom (dump .time) reading rows)
+  rise : RisesFrom (dump .time) (momentsFrom (dump .time) reading rows)
+
+at-end : (reading : Reading) (dump : Dump) → Onward reading dump []
+unfolding momentsFrom laterText
+at-end reading dump = record { text = end-text reading dump; rise = Prim.tt }
+
+-- One row, where it goes on so from any reading behind it.
+one-more : (reading : Reading) (dump : Dump) (row : List ℕ) (rows : List (List ℕ)) → Turn dump reading (rowOf reading row)
+    → ((reading′ : Reading) (dump′ : Dump) → Running (reading′ .phase) (dump′ .time) → Onward reading′ dump′ rows)
+    → Onward reading dump (row ∷ rows)
+unfolding laterText
+one-more reading dump row rows (stays q r) on =
+    let k = on (rowOf reading row .reading) dump r in
+    record {
+      text = rw (row-text reading dump row rows (q .told), row-moments reading dump row rows (q .none)) (k .text);
+      rise = rw (row-moments reading dump row rows (q .none)) (k .rise);
+    }
+one-more reading dump row rows (moves m r) on =
+    let d : Dump = record { time = m .moment .time; values = m .moment .values } in
+    let k = on (rowOf reading row .reading) d r in
+    record {
+      text =
+          rw (row-text reading dump row rows (m .told), row-moments reading dump row rows (m .one))
+          (ap (λ (l : List ℕ). momentText (dump .values) (m .moment) ++ l) (k .text));
+      rise = rw (row-moments reading dump row rows (m .one)) (m .rises, m .fits, m .wide, k .rise);
+    }
+
+onward : (rows : List (List ℕ)) (reading : Reading) (dump : Dump) → Running (reading .phase) (dump .time) → Onward reading dump rows
+onward [] reading dump r = at-end reading dump
+onward (row ∷ rows) reading dump r =
+    one-more reading dump row rows (turn reading dump row r) (λ reading′ dump′ r′. onward rows reading′ dump′ r′)
+
+-- ---- Up to row 0
+
+-- What is written is the dump of all moments; and there are none, or the times rise from 0.
+pub record Dumped (reading : Reading) (dump : Dump) (rows : List (List ℕ)) : Type 0 where
+  pub text : fromRows reading dump rows ≡ dumpOf (momentsFrom (dump .time) reading rows)
+  pub rise : (momentsFrom (dump .time) reading rows ≡ []) ⊎ Rising (momentsFrom (dump .time) reading rows)
+
+none-dumped : (reading : Reading) (dump : Dump) (rows : List (List ℕ)) → fromRows reading dump rows ≡ []
+    → momentsFrom (dump .time) reading rows ≡ []
+    → Dumped reading dump rows
+unfolding dumpOf
+none-dumped reading dump rows e f = record { text = rw (e, f); rise = inl f }
+
+nothing-dumped : (reading : Reading) (dump : Dump) → Dumped reading dump []
+unfolding momentsFrom
+nothing-dumped reading dump = none-dumped reading dump [] (end-text reading dump) refl
+
+-- Where the reading is at its end, nothing more is written, and there is no more moment.
+pub nothing-more : (reading : Reading) (dump : Dump) → Silent reading → (rows : List (List ℕ)) → fromRows reading dump rows ≡ []
+unfolding fromRows
+nothing-more reading dump s [] = end-text reading dump
+nothing-more reading dump s (row ∷ rows) =
+    rw (s .at-row row, untold-quiet dump reading reading .told) (nothing-more reading dump s rows)
+
+no-moments : (reading : Reading) (time : ℕ) → Silent reading → (rows : List (List ℕ)) → momentsFrom time reading rows ≡ []
+unfolding momentsFrom adds
+no-moments reading time s [] = refl
+no-moments reading time s (row ∷ rows) = rw (s .at-row row) (no-moments reading time s rows)
+
+-- A row that adds nothing.
+quiet-dumped : (reading : Reading) (dump : Dump) (row : List ℕ) (rows : List (List ℕ)) → Quiet dump reading (rowOf reading row)
+    → Dumped (rowOf reading row .reading) dump rows
+    → Dumped reading dump (row ∷ rows)
+quiet-dumped reading dump row rows q k =
+    let e = row-moments reading dump row rows (q .none) in
+    record { text = rw (row-text reading dump row rows (q .told), e) (k .text); rise = rw e (k .rise) }
+
+-- A row that ends the reading.
+at-its-end : (line refusal : ℕ) (state : State) (dump : Dump) (rows : List (List ℕ)) → Dumped (endsAt line refusal state .reading) dump rows
+unfolding endsAt
+at-its-end line refusal state dump rows =
+    let s = after-refusal (endsAt line refusal state .reading) line refusal refl in
+    none-dumped _ dump rows (nothing-more _ dump s rows) (no-moments _ (dump .time) s rows)
+
+ended-dumped : (reading : Reading) (dump : Dump) (row : List ℕ) (rows : List (List ℕ)) (line refusal : ℕ) (state : State)
+    → rowOf reading row ≡ endsAt line refusal state
+    → Dumped reading dump (row ∷ rows)
+ended-dumped reading dump row rows line refusal state e =
+    quiet-dumped reading dump row rows (rw e (ended-quiet dump reading line refusal state))
+    (rw e (at-its-end line refusal state dump rows))
+
+-- Row 0, and then the rows behind it.
+started-dumped : (reading : Reading) (dump : Dump) (row : List ℕ) (rows : List (List ℕ)) → Started dump reading (rowOf reading row)
+    → Dumped reading dump (row ∷ rows)
+unfolding dumpOf
+started-dumped reading dump row rows s =
+    let e = row-moments reading dump row rows (s .one) in
+    let k = onward rows (rowOf reading row .reading) (startsWith (s .values)) (s .running) in
+    record {
+      text = rw (row-text reading dump row rows (s .told), e) (ap (λ (l : List ℕ). headText (s .values) ++ l) (k .text));
+      rise = rw e (inr (refl, s .wide, k .rise));
+    }
+
+-- Where row 0 is due.
+from-row-0 : (state : State) (dump : Dump) (rows : List (List ℕ)) → Dumped (record { phase = Rows (Label 0); state = state }) dump rows
+from-row-0 state dump [] = nothing-dumped _ dump
+from-row-0 state dump (row ∷ rows) = by-turn (first-turn dump state row) where
+  reading : Reading
+  reading = record { phase = Rows (Label 0); state = state }
+
+  by-turn : FirstTurn dump reading (rowOf reading row) → Dumped reading dump (row ∷ rows)
+  by-turn (ends line refusal e) = ended-dumped reading dump row rows line refusal state e
+  by-turn (starts s) = started-dumped reading dump row rows s
+
+-- Where the header is due.
+pub from-header : (state : State) (dump : Dump) (rows : List (List ℕ)) → Dumped (record { phase = Header; state = state }) dump rows
+from-header state dump [] = nothing-dumped _ dump
+from-header state dump (row ∷ rows) = by-turn (header-turn state row) where
+  reading : Reading
+  reading = record { phase = Header; state = state }
+
+  by-turn : HeaderTurn state (rowOf reading row) → Dumped reading dump (row ∷ rows)
+  by-turn (fails line refusal e) = ended-dumped reading dump row rows line refusal state e
+  by-turn (opens e) =
+      quiet-dumped reading dump row rows (rw e (untold-quiet dump reading _)) (rw e (from-row-0 state dump rows))

@@ -1,0 +1,43 @@
+-- The fields of a row of a sheet, one after the other: what each turn of a loop over the wires adds to the text.
+-- Assumes nothing.
+use Prim.Native.Nat.{ℕ, zero, suc, _+_, _*_, _<_}
+use native.Mathlib.Nat.{le-of-suc-le-suc, not-suc-le-zero}
+use native.Mathlib.Numerals.{add-one}
+use native.Mathlib.Omega.{arith}
+use mathlib.Core.Bool.{Bool, false}
+use mathlib.Core.List.{List, [], _∷_, _++_, map, append-nil}
+use mathlib.Core.Path.{_≡_, refl, sym, ap}
+use lib.ListN.{length, getD, take}
+use Rattle.common.specs.Ascii.{comma, joinedByCommas}
+use Rattle.common.specs.Decimal.{decimal}
+use Rattle.readback.specs.Sheets.{crlf, valueField, sheetRow, laterFields}
+
+-- Behind the first field, each field has the comma before it.
+joined : (f : List ℕ) (vs : List Bool) → joinedByCommas (f ∷ map valueField vs) ≡ f ++ laterFields vs
+unfolding joinedByCommas laterFields
+joined f [] = sym (append-nil f)
+joined f (v ∷ vs) = ap (λ (l : List ℕ). f ++ comma ∷ l) (joined (valueField v) vs)
+
+-- A row is its time, the fields behind it, and its end.
+pub row-parts : (time : ℕ) (vs : List Bool) → (decimal time ++ laterFields vs) ++ crlf ≡ sheetRow time vs
+unfolding sheetRow
+row-parts time vs = ap (λ (l : List ℕ). l ++ crlf) (sym (joined (decimal time) vs))
+
+-- Two bytes for each wire.
+pub fields-length : (vs : List Bool) → length (laterFields vs) ≡ 2 * length vs
+unfolding laterFields
+fields-length [] = refl
+fields-length (v ∷ vs) = omega (arith, fields-length vs)
+
+-- One wire more.
+fields-more : (i : ℕ) (vs : List Bool) → i < length vs
+    → laterFields (take (suc i) vs) ≡ laterFields (take i vs) ++ comma ∷ valueField (getD vs i false)
+unfolding laterFields
+fields-more i [] h = absurd (not-suc-le-zero h)
+fields-more zero (v ∷ vs) h = refl
+fields-more (suc i) (v ∷ vs) h = ap (λ (l : List ℕ). (comma ∷ valueField v) ++ l) (fields-more i vs (le-of-suc-le-suc h))
+
+-- The same, as a loop counts.
+pub fields-turn : (i : ℕ) (vs : List Bool) → i < length vs
+    → laterFields (take i vs) ++ comma ∷ valueField (getD vs i false) ≡ laterFields (take (i + 1) vs)
+fields-turn i vs h = rw (add-one i) (sym (fields-more i vs h))

@@ -1,0 +1,10 @@
+pub mod Exact
+pub mod Fields
+pub mod FixedTexts
+pub mod Lines
+pub mod Once
+pub mod Parts
+pub mod Places
+pub mod Turns
+pub mod Worked
+pub mod Written

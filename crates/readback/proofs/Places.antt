@@ -1,0 +1,63 @@
+-- Small steps that the proofs on reading take: a refusal gives nothing, a byte that no dump has is refused whatever follows, and so
+-- a reading that gives something has taken every byte.
+-- Assumes nothing.
+use Prim.Native.Nat.{ℕ}
+use native.Mathlib.Omega.{arith}
+use mathlib.Core.Bool.{Bool, true, false, cond, _&&_}
+use mathlib.Core.List.{List, [], _∷_}
+use mathlib.Core.Path.{_≡_, refl, sym, ap, _∙_}
+use Rattle.common.specs.Answers.{gives, refuses}
+use Rattle.dump.specs.Dumps.{Moment}
+use Rattle.readback.specs.declared.Place.{Place}
+use Rattle.readback.specs.declared.Place.the-variants.{Opening, FirstValue, FirstCode, FirstEnd, Closing, Line, Time, Code, End, Bad}
+use Rattle.readback.specs.declared.Reader.{Reader}
+use Rattle.readback.specs.Bytes.{bad, byteBy, byteOf}
+use Rattle.readback.specs.Reads.{isBad, complete, begins, readFrom}
+
+-- A refusal gives nothing.
+pub refusal-gives-nothing : {A B : Type 0} {k : ℕ} {x : A} → refuses k ≡ gives x → B
+refusal-gives-nothing r = let z : _≡_ {A = ℕ} 0 1 = cc in absurd (omega arith)
+
+-- Both tests hold.
+pub both-hold : (a b : Bool) → a && b ≡ true → (a ≡ true) × (b ≡ true)
+both-hold true b e = (refl, e)
+both-hold false b e = (cc, cc)
+
+-- A reader by its parts.
+abbrev pub readerAt : Place → ℕ → ℕ → List Bool → Reader
+readerAt place time next values = record { place = place; time = time; next = next; values = values }
+
+-- A byte at a place that is known.
+pub byte-at : (r : Reader) (b : ℕ) (place : Place) → r .place ≡ place → byteOf r b ≡ byteBy place r b
+unfolding byteOf
+byte-at r b place e = ap (λ (p : Place). byteBy p r b) e
+
+-- The place where nothing more is read.
+pub bad-place : (place : Place) → isBad place ≡ true → place ≡ Bad
+bad-place (Opening at) e = cc
+bad-place FirstValue e = cc
+bad-place FirstCode e = cc
+bad-place FirstEnd e = cc
+bad-place (Closing at) e = cc
+bad-place Line e = cc
+bad-place (Time n) e = cc
+bad-place (Code value) e = cc
+bad-place End e = cc
+bad-place Bad e = refl
+
+-- There every reading is refused.
+pub bad-refuses : (time next : ℕ) (values : List Bool) (bytes : List ℕ) → readFrom (readerAt Bad time next values) bytes ≡ refuses 9
+unfolding readFrom complete begins byteOf
+bad-refuses time next values [] = refl
+bad-refuses time next values (b ∷ bytes) = bad-refuses time next values bytes
+
+-- The same of a reader of which a test says that it is there.
+pub refused-for-good : (place : Place) (time next : ℕ) (values : List Bool) (bytes : List ℕ) → isBad place ≡ true
+    → readFrom (readerAt place time next values) bytes ≡ refuses 9
+refused-for-good place time next values bytes e = rw (bad-place place e) (bad-refuses time next values bytes)
+
+-- So where something is given, the byte was taken: its test holds, and the reading goes on behind it.
+pub taken-on : (test : Bool) (after r : Reader) (bytes : List ℕ) (all : List Moment) → readFrom (cond test after (bad r)) bytes ≡ gives all
+    → (test ≡ true) × (readFrom after bytes ≡ gives all)
+taken-on true after r bytes all e = (refl, e)
+taken-on false after r bytes all e = refusal-gives-nothing (sym (bad-refuses (r .time) (r .next) (r .values) bytes) ∙ e)

@@ -1,0 +1,37 @@
+-- Request K2 on Session S: the sheet that must be written of its dump, row by row.
+-- Assumes nothing.
+use Prim.Native.Nat.{ℕ}
+use Prim.Native.String.{String}
+use mathlib.Core.List.{List, [], _∷_, _++_}
+use Rattle.common.specs.Ascii.{ascii}
+use Rattle.common.specs.Case.{Case}
+use Rattle.dump.specs.Dumps.{Moment}
+use Rattle.dump.specs.Cases.{sessionS}
+use Rattle.readback.specs.Values.{shown}
+use Rattle.readback.specs.Sheets.{crlf, sheetHeader, sheetRow}
+
+-- The rows of the moments.
+unfoldable pub rowsOf : List Moment → List ℕ
+rowsOf [] = []
+rowsOf (m ∷ ms) = sheetRow (m .time) (m .values) ++ rowsOf ms
+
+-- Rows, each with its CR and LF.
+unfoldable pub endedRows : List String → List ℕ
+endedRows [] = []
+endedRows (text ∷ texts) = ascii text ++ crlf ++ endedRows texts
+
+-- The sheet: its header, and the seven times at which something is written.
+unfoldable pub sessionRows : List String
+sessionRows =
+    "time,general_EV,close_EV,open_EV,retract_EV,extend_EV,green,orange,red,handle,analogical_switch,gear_extended_front,gear_extended_left,gear_extended_right,gear_retracted_front,gear_retracted_left,gear_retracted_right,gear_shock_absorber_front,gear_shock_absorber_left,gear_shock_absorber_right,door_closed_front,door_closed_left,door_closed_right,door_open_front,door_open_left,door_open_right,circuit_pressurized" ∷
+    "0,0,0,0,0,0,1,0,0,1,0,1,1,1,0,0,0,0,0,0,1,1,1,0,0,0,0" ∷
+    "150,1,0,0,0,0,1,0,0,0,0,1,1,1,0,0,0,0,0,0,1,1,1,0,0,0,0" ∷
+    "350,1,0,1,0,0,1,0,0,0,0,1,1,1,0,0,0,0,0,0,1,1,1,0,0,0,0" ∷
+    "400,1,0,0,0,0,1,1,0,0,0,1,1,1,0,0,0,0,0,0,0,0,0,1,1,1,0" ∷
+    "450,1,0,0,1,0,1,1,0,0,0,1,1,1,0,0,0,0,0,0,0,0,0,1,1,1,0" ∷
+    "550,1,0,0,0,0,0,1,0,1,0,0,0,0,0,0,0,0,0,0,0,0,0,1,1,1,0" ∷
+    "650,1,0,0,0,1,0,1,0,1,0,0,0,0,0,0,0,0,0,0,0,0,0,1,1,1,0" ∷
+    []
+
+unfoldable pub sessionSheet : Case
+sessionSheet = record { name = "The sheet of Session S"; gives = sheetHeader ++ rowsOf (shown sessionS); wanted = endedRows sessionRows }

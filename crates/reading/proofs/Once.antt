@@ -1,0 +1,39 @@
+-- No second answer meets the contract of a public function of this crate.
+-- Assumes nothing.
+use Prim.Native.Nat.{ℕ}
+use mathlib.Core.List.{List}
+use mathlib.Core.Path.{_∙_, sym}
+use denote.Ref.{now}
+use Rattle.common.specs.OneAnswer.{OneAnswer, OneAnswerAnd}
+use Rattle.common.proofs.Pairs.{both}
+use Rattle.reading.proofs.Phase.has_ended.Kinds as has-ended-kinds
+use Rattle.reading.proofs.Phase.has_ended.Reads as has-ended-reads
+use Rattle.reading.proofs.Reading.new.Kinds as reading-new-kinds
+use Rattle.reading.proofs.Reading.new.Reads as reading-new-reads
+use Rattle.reading.proofs.Reading.row.Kinds as reading-row-kinds
+use Rattle.reading.proofs.Reading.row.Reads as reading-row-reads
+use Rattle.reading.proofs.Reading.over.Kinds as reading-over-kinds
+use Rattle.reading.proofs.Reading.over.Reads as reading-over-reads
+use Rattle.reading.proofs.Reading.end.Kinds as reading-end-kinds
+use Rattle.reading.proofs.Reading.end.Reads as reading-end-reads
+use Rattle.reading.proofs.Reading.last.Kinds as reading-last-kinds
+use Rattle.reading.proofs.Reading.last.Reads as reading-last-reads
+
+pub has-ended-once : OneAnswer 0 has-ended-kinds.ps has-ended-kinds.r has-ended-reads.Post
+has-ended-once κs a x y s t p q = p ∙ sym q
+
+pub reading-new-once : OneAnswer 0 reading-new-kinds.ps reading-new-kinds.r reading-new-reads.Post
+reading-new-once κs a x y s t p q = p ∙ sym q
+
+pub reading-row-once : OneAnswer 1 reading-row-kinds.ps reading-row-kinds.r reading-row-reads.Post
+reading-row-once κs a x y s t p q = p ∙ sym q
+
+pub reading-over-once : OneAnswer 0 reading-over-kinds.ps reading-over-kinds.r reading-over-reads.Post
+reading-over-once κs a x y s t p q = p ∙ sym q
+
+pub reading-end-once : OneAnswer 0 reading-end-kinds.ps reading-end-kinds.r reading-end-reads.Post
+reading-end-once κs a x y s t p q = p ∙ sym q
+
+-- With the line buffer, as `last` leaves it.
+pub reading-last-once : OneAnswerAnd 1 reading-last-kinds.ps reading-last-kinds.r reading-last-reads.Post (List ℕ) (λ κs s. now (s .1 .0))
+reading-last-once κs a x y s t p q = both (p ∙ sym q)
