@@ -34,6 +34,7 @@ use Rattle.dumping.specs.declared.Took.{Took}
 use Rattle.dumping.specs.Moments.{momentsOf, wavesOf}
 use Rattle.reading.specs.Lasts.{lastBy, lastHeard}
 use Rattle.dumping.specs.Parts.{given, fromRows, toCome, newWaves, inFront, rowTook, heardRow, afterCut, room, lent, takeOf, finishOf}
+use Rattle.dumping.specs.Runs.{wrote}
 use Rattle.dumping.proofs.Whole.{end-text, nothing-more, Dumped, from-header}
 use Rattle.dumping.proofs.Lengths.{given-length}
 
@@ -87,10 +88,7 @@ lent-taken : (waves : Waves) (line out : List ℕ) (took : Took × List ℕ × L
 unfolding lent
 lent-taken waves line out took h fits = simp (eq-eqb (length line) 512 h, le-ltb (length out) room fits)
 
--- What was written: so many bytes of the output buffer as the answer says.
-abbrev pub wrote : Took × List ℕ × List ℕ → List ℕ
-wrote answer = take (answer .0 .written) (answer .2)
-
+-- What was written of a row.
 module _ (waves : Waves) (heard : Heard) (used : ℕ) (line out : List ℕ) where
   -- It is the text of the row,
   row-wrote : wrote (heardRow waves heard used line out) ≡ given (waves .dump) (waves .reading .state) heard .1

@@ -1,6 +1,7 @@
 // A whole run of the program `waves` (request K2): a trace in, the value change dump of it out.
 // The rule is specs/Moments.antt, from all bytes of the trace to all bytes of the dump. The input is taken in by parts, one row a
-// call: specs/Parts.antt says what a call gives, and proofs/Law.antt that what is written in all is the dump of the whole.
+// call: specs/Parts.antt says what a call gives, and proofs/InAll.antt that however the input is cut, what is written in all is the
+// dump of the whole.
 ghost use mathlib.Core.Path.{_≡_};
 ghost use Prim.Native.Nat.{_≤_};
 ghost use lib.ListN.{length};
