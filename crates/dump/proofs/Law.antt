@@ -8,7 +8,7 @@ use mathlib.Core.List.{List, [], _∷_, _++_}
 use mathlib.Core.Path.{_≡_, refl, ap}
 use borrow.Author.Tests.{eqb-false, leb-false}
 use lib.Dec.{eqb, leb, ltb}
-use lib.ListN.{length, take}
+use lib.ListN.{length}
 use lib.Seq.{take-append-seam}
 use Rattle.dump.specs.declared.Dump.{Dump}
 use Rattle.dump.specs.Dumps.{Moment, RisesFrom, Rising, headText, momentText, laterText, dumpOf}

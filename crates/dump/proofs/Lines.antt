@@ -9,8 +9,7 @@ use mathlib.Core.List.{List, [], _∷_, _++_, append-assoc, append-nil}
 use mathlib.Core.Path.{_≡_, refl, sym, ap, _∙_}
 use lib.ListN.{length, getD, take, length-append}
 use Rattle.dump.specs.Wires.{wireNames, firstCode}
-use Rattle.dump.specs.Dumps.{declarations, openingText, closingText, valueLine, valueLines, changeLine, changesFrom, timeLine, timed}
-use Rattle.texts.specs.Puts.{Put}
+use Rattle.dump.specs.Dumps.{declarations, openingText, closingText, valueLine, valueLines, differ, changeLine, changesFrom, timeLine, timed}
 
 -- What every dump begins with.
 pub opening-length : length openingText ≡ 995
@@ -66,17 +65,24 @@ changes-turn i os ns h k = rw (add-one i) (sym (changes-more firstCode i os ns h
 
 -- ---- A wire that changes, and one that does not
 
+-- As the code tests it.
+pub is-same : (old new : Bool) → Bool·beq old new ≡ true → differ old new ≡ false
+is-same true true e = refl
+is-same true false e = cc
+is-same false true e = cc
+is-same false false e = refl
+
+pub is-another : (old new : Bool) → Bool·beq old new ≡ false → differ old new ≡ true
+is-another true true e = cc
+is-another true false e = refl
+is-another false true e = refl
+is-another false false e = cc
+
 pub unchanged : (code : ℕ) (old new : Bool) → Bool·beq old new ≡ true → changeLine code old new ≡ []
-unchanged code true true e = refl
-unchanged code true false e = cc
-unchanged code false true e = cc
-unchanged code false false e = refl
+unchanged code old new e = rw (is-same old new e)
 
 pub changed : (code : ℕ) (old new : Bool) → Bool·beq old new ≡ false → changeLine code old new ≡ valueLine code new
-changed code true true e = cc
-changed code true false e = refl
-changed code false true e = refl
-changed code false false e = cc
+changed code old new e = rw (is-another old new e)
 
 -- A line has at most three bytes.
 pub change-length : (code : ℕ) (old new : Bool) → length (changeLine code old new) ≤ 3
@@ -102,10 +108,3 @@ not-timed time (b ∷ changes) e = absurd (omega arith)
 pub is-timed : (time : ℕ) (changes : List ℕ) → 0 < length changes → timed time changes ≡ timeLine time ++ changes
 is-timed time [] h = absurd (omega arith)
 is-timed time (b ∷ changes) h = refl
-
--- ---- Puts
-
--- Nothing is put.
-pub put-nothing : (line : List ℕ) (at : ℕ) → Put line at [] line at
-put-nothing line at =
-    record { place = sym (add-zero at); size = refl; text = sym (append-nil (take at line)); past = refl }

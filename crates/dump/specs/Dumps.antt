@@ -1,7 +1,7 @@
 -- Request K2: the value change dump, from a list of times and values to all its bytes.
 -- Assumes nothing.
 use Prim.Native.Nat.{ℕ, suc, _+_, _^_, _<_}
-use mathlib.Core.Bool.{Bool, true, false}
+use mathlib.Core.Bool.{Bool, true, false, cond}
 use mathlib.Core.List.{List, [], _∷_, _++_}
 use mathlib.Core.Path.{_≡_}
 use lib.ListN.{length}
@@ -72,12 +72,16 @@ headText values = openingText ++ valueLines firstCode values ++ closingText
 
 -- ---- Changes
 
+-- A wire changes where its values before and after differ.
+abbrev pub differ : Bool → Bool → Bool
+differ false false = false
+differ false true = true
+differ true false = true
+differ true true = false
+
 -- A wire that changes is written with its new value; one that does not, is not.
 abbrev pub changeLine : ℕ → Bool → Bool → List ℕ
-changeLine code false false = []
-changeLine code false true = valueLine code true
-changeLine code true false = valueLine code false
-changeLine code true true = []
+changeLine code old new = cond (differ old new) (valueLine code new) []
 
 -- The changed wires, in order: the values before, and the values after.
 unfoldable pub changesFrom : ℕ → List Bool → List Bool → List ℕ

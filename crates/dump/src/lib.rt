@@ -21,10 +21,10 @@ ghost use Rattle.dump.specs.Dumps.{
 ghost use Rattle.dump.specs.Writes.{refused, placed, startOf, nextOf};
 
 // There are so many wires.
-const WIRES: usize = 26;
+pub const WIRES: usize = 26;
 
 // The code of the first wire; each next wire has the next.
-const FIRST: u8 = b'!';
+pub const FIRST: u8 = b'!';
 
 // What every dump begins with, up to the first value, and how many bytes that is.
 pub const OPENING_LENGTH: usize = 995;

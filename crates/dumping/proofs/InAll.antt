@@ -3,11 +3,11 @@
 use Prim.Native.Nat.{ℕ, zero, suc, _≤_}
 use native.Mathlib.Omega.{arith}
 use mathlib.Core.List.{List, [], _∷_, _++_}
-use mathlib.Core.Path.{_≡_, refl, sym, ap, _∙_}
+use mathlib.Core.Path.{_≡_, sym, ap, _∙_}
 use lib.ListN.{length, drop, length-drop}
 use Rattle.dumping.specs.declared.Waves.{Waves}
 use Rattle.dumping.specs.Moments.{wavesOf}
-use Rattle.dumping.specs.Parts.{toCome, newWaves, room, takeOf, finishOf}
+use Rattle.dumping.specs.Parts.{toCome, newWaves, room, takeOf}
 use Rattle.dumping.specs.Runs.{inputOf, wrote, writtenInAll, turnsFor}
 use Rattle.dumping.proofs.Law.{at-start, take-law, finish-law}
 

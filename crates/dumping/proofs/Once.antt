@@ -2,10 +2,10 @@
 -- Assumes nothing.
 use Prim.Native.Nat.{ℕ}
 use mathlib.Core.List.{List}
-use mathlib.Core.Path.{_≡_, ap, sym, _∙_}
+use mathlib.Core.Path.{_∙_, sym}
 use denote.Ref.{now}
 use Rattle.common.specs.OneAnswer.{OneAnswer, OneAnswerAnd}
-use Rattle.dumping.specs.declared.Took.{Took}
+use Rattle.common.proofs.Pairs.{all-three}
 use Rattle.dumping.proofs.wires.Kinds as wires-kinds
 use Rattle.dumping.proofs.wires.Reads as wires-reads
 use Rattle.dumping.proofs.Waves.new.Kinds as new-kinds
@@ -16,9 +16,6 @@ use Rattle.dumping.proofs.Waves.take.Kinds as take-kinds
 use Rattle.dumping.proofs.Waves.take.Reads as take-reads
 use Rattle.dumping.proofs.Waves.finish.Kinds as finish-kinds
 use Rattle.dumping.proofs.Waves.finish.Reads as finish-reads
-
-once : (x y : Took × List ℕ × List ℕ) → x ≡ y → (x .0 ≡ y .0) × (_≡_ {A = List ℕ × List ℕ} (x .1, x .2) (y .1, y .2))
-once x y e = (ap (λ (r : Took × List ℕ × List ℕ). r .0) e, ap (λ (r : Took × List ℕ × List ℕ). (r .1, r .2)) e)
 
 pub wires-once : OneAnswer 0 wires-kinds.ps wires-kinds.r wires-reads.Post
 wires-once κs a x y s t p q = p ∙ sym q
@@ -32,10 +29,9 @@ phase-once κs a x y s t p q = p ∙ sym q
 -- Both lent buffers, as `take` leaves them: the line buffer and the output buffer.
 pub take-once : OneAnswerAnd 3 take-kinds.ps take-kinds.r take-reads.Post (List ℕ × List ℕ)
     (λ κs s. (now (s .1 .1 .0), now (s .1 .1 .1 .0)))
-take-once κs a x y s t p q =
-    once (x, now (s .1 .1 .0), now (s .1 .1 .1 .0)) (y, now (t .1 .1 .0), now (t .1 .1 .1 .0)) (p ∙ sym q)
+take-once κs a x y s t p q = all-three (p ∙ sym q)
 
 -- And as `finish` leaves them.
 pub finish-once : OneAnswerAnd 2 finish-kinds.ps finish-kinds.r finish-reads.Post (List ℕ × List ℕ)
     (λ κs s. (now (s .1 .0), now (s .1 .1 .0)))
-finish-once κs a x y s t p q = once (x, now (s .1 .0), now (s .1 .1 .0)) (y, now (t .1 .0), now (t .1 .1 .0)) (p ∙ sym q)
+finish-once κs a x y s t p q = all-three (p ∙ sym q)

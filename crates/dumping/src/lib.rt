@@ -28,11 +28,9 @@ use dump::Dump;
 use lines::Taken;
 use reading::Came;
 use reading::Heard;
+use reading::LINE;
 use reading::Phase;
 use reading::Reading;
-
-// A row has at most so many bytes, and so has the line buffer.
-const LINE: usize = 512;
 
 // What is written of a row has at most so many bytes: the head of a dump.
 pub const ROOM: usize = 1078;

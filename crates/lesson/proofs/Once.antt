@@ -2,10 +2,10 @@
 -- Assumes nothing.
 use Prim.Native.Nat.{ℕ}
 use mathlib.Core.List.{List}
-use mathlib.Core.Path.{_≡_, ap, sym, _∙_}
+use mathlib.Core.Path.{_∙_, sym}
 use denote.Ref.{now}
 use Rattle.common.specs.OneAnswer.{OneAnswer, OneAnswerAnd}
-use Rattle.lesson.specs.declared.Took.{Took}
+use Rattle.common.proofs.Pairs.{all-three}
 use Rattle.lesson.proofs.Lesson.new.Kinds as new-kinds
 use Rattle.lesson.proofs.Lesson.new.Reads as new-reads
 use Rattle.lesson.proofs.Lesson.phase.Kinds as phase-kinds
@@ -14,9 +14,6 @@ use Rattle.lesson.proofs.Lesson.take.Kinds as take-kinds
 use Rattle.lesson.proofs.Lesson.take.Reads as take-reads
 use Rattle.lesson.proofs.Lesson.finish.Kinds as finish-kinds
 use Rattle.lesson.proofs.Lesson.finish.Reads as finish-reads
-
-once : (x y : Took × List ℕ × List ℕ) → x ≡ y → (x .0 ≡ y .0) × (_≡_ {A = List ℕ × List ℕ} (x .1, x .2) (y .1, y .2))
-once x y e = (ap (λ (r : Took × List ℕ × List ℕ). r .0) e, ap (λ (r : Took × List ℕ × List ℕ). (r .1, r .2)) e)
 
 pub new-once : OneAnswer 0 new-kinds.ps new-kinds.r new-reads.Post
 new-once κs a x y s t p q = p ∙ sym q
@@ -27,10 +24,9 @@ phase-once κs a x y s t p q = p ∙ sym q
 -- Both lent buffers, as `take` leaves them: the line buffer and the output buffer.
 pub take-once : OneAnswerAnd 3 take-kinds.ps take-kinds.r take-reads.Post (List ℕ × List ℕ)
     (λ κs s. (now (s .1 .1 .0), now (s .1 .1 .1 .0)))
-take-once κs a x y s t p q =
-    once (x, now (s .1 .1 .0), now (s .1 .1 .1 .0)) (y, now (t .1 .1 .0), now (t .1 .1 .1 .0)) (p ∙ sym q)
+take-once κs a x y s t p q = all-three (p ∙ sym q)
 
 -- And as `finish` leaves them.
 pub finish-once : OneAnswerAnd 2 finish-kinds.ps finish-kinds.r finish-reads.Post (List ℕ × List ℕ)
     (λ κs s. (now (s .1 .0), now (s .1 .1 .0)))
-finish-once κs a x y s t p q = once (x, now (s .1 .0), now (s .1 .1 .0)) (y, now (t .1 .0), now (t .1 .1 .0)) (p ∙ sym q)
+finish-once κs a x y s t p q = all-three (p ∙ sym q)

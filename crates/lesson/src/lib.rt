@@ -12,11 +12,9 @@ use lines::Taken;
 use output::Written;
 use reading::Came;
 use reading::Heard;
+use reading::LINE;
 use reading::Phase;
 use reading::Reading;
-
-// A row has at most so many bytes, and so has the line buffer.
-const LINE: usize = 512;
 
 // An output row has at most so many bytes.
 const ROOM: usize = 64;

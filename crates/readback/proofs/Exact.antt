@@ -25,10 +25,10 @@ use Rattle.dump.specs.Dumps.{
   valueLines,
   closingText,
   headText,
+  differ,
   changesFrom,
   hash,
   timeLine,
-  timed,
   momentText,
   laterText,
   dumpOf,
@@ -43,7 +43,6 @@ use Rattle.readback.specs.Bytes.{
   wireOf,
   isDigit,
   withDigit,
-  isOther,
   atOpening,
   atFirstValue,
   atFirstCode,
@@ -186,10 +185,10 @@ module _ (time wire : ℕ) (value : Bool) (values : List Bool) (m : Moment) (tol
 
   -- A change: its line, and the changes of the wires after it.
   told-change : (next : ℕ) → next ≤ wire → wire < length values → wire < length (m .values)
-      → isOther value (getD values wire false) ≡ true
+      → differ (getD values wire false) value ≡ true
       → changes next values m ≡ (digit0 + bit value) ∷ (firstCode + wire) ∷ lf ∷ changes (suc wire) (set values wire value) m
   told-change next before h k other =
-      let new : isOther (getD (m .values) wire false) (getD values wire false) ≡ true = rw (told-value h) other in
+      let new : differ (getD values wire false) (getD (m .values) wire false) ≡ true = rw (told-value h) other in
       sym (changes-all next before) ∙ changes-all wire (omega arith) ∙ changes-at firstCode wire values (m .values) h k new
       ∙ rw (told-value h, drop-set-lt (suc wire) values wire value (omega arith))
 
@@ -395,7 +394,7 @@ module _ (b : ℕ) (bytes : List ℕ) (on : AllRead bytes) (time next : ℕ) (va
   code-byte value e =
       let w = wireOf b in
       let t = taken-on
-      (leb firstCode b && (leb next w && (ltb w wires && isOther value (getD values w false)))) _ (readerAt End time next values) bytes all e in
+      (leb firstCode b && (leb next w && (ltb w wires && differ (getD values w false) value))) _ (readerAt End time next values) bytes all e in
       let h = both-hold (leb firstCode b) _ (t .0) in
       let i = both-hold (leb next w) _ (h .1) in
       let j = both-hold (ltb w wires) _ (i .1) in

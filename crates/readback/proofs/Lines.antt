@@ -4,55 +4,27 @@
 use Prim.Native.Nat.{ℕ, zero, suc, _+_, _/_, _%_, _^_, _<_, _≤_}
 use native.Mathlib.Nat.{add-zero, add-suc, suc-add}
 use native.Mathlib.Omega.{arith}
-use mathlib.Core.Bool.{Bool, true, false, cond, Bool·beq, true≢false, false≢true}
+use mathlib.Core.Bool.{Bool, true, false, cond, true≢false, false≢true}
 use mathlib.Core.List.{List, [], _∷_, _++_}
 use mathlib.Core.Path.{_≡_, refl, _∙_}
 use lib.ListN.{length, take, drop, getD}
 use lib.Seq.{drop-cons}
 use Rattle.common.specs.Decimal.{digit0, decimal}
 use Rattle.common.proofs.Decimals.{decimal-one, decimal-more}
-use Rattle.dump.specs.Dumps.{Moment, RisesFrom, valueLine, valueLines, changeLine, changesFrom}
-use Rattle.readback.specs.Bytes.{isOther, withDigit}
+use Rattle.dump.specs.Dumps.{Moment, RisesFrom, valueLine, valueLines, differ, changeLine, changesFrom}
+use Rattle.readback.specs.Bytes.{withDigit}
 use Rattle.readback.specs.Values.{sameValues}
 
 -- ---- One wire
 
--- A value that is no other is the same.
-pub not-other : (new old : Bool) → isOther new old ≡ false → old ≡ new
+-- A value that does not change is the same.
+pub not-other : (old new : Bool) → differ old new ≡ false → old ≡ new
 not-other true true e = refl
 not-other true false e = absurd (true≢false e)
 not-other false true e = absurd (true≢false e)
 not-other false false e = refl
 
--- As the code compares them.
-pub is-same : (new old : Bool) → Bool·beq new old ≡ true → isOther new old ≡ false
-is-same true true e = refl
-is-same true false e = absurd (false≢true e)
-is-same false true e = absurd (false≢true e)
-is-same false false e = refl
-
-pub is-another : (new old : Bool) → Bool·beq new old ≡ false → isOther new old ≡ true
-is-another true true e = absurd (true≢false e)
-is-another true false e = refl
-is-another false true e = refl
-is-another false false e = absurd (true≢false e)
-
--- A line is written for another value.
-pub change-line : (code : ℕ) (old new : Bool) → changeLine code old new ≡ cond (isOther new old) (valueLine code new) []
-change-line code true true = refl
-change-line code true false = refl
-change-line code false true = refl
-change-line code false false = refl
-
 -- ---- All wires
-
--- Values are the same where no wire has another.
-pub same-cons : (u v : Bool) (us vs : List Bool) → sameValues (u ∷ us) (v ∷ vs) ≡ cond (isOther v u) false (sameValues us vs)
-unfolding sameValues
-same-cons true true us vs = refl
-same-cons true false us vs = refl
-same-cons false true us vs = refl
-same-cons false false us vs = refl
 
 -- The same values are equal.
 pub same-equal : (us vs : List Bool) → sameValues us vs ≡ true → us ≡ vs
@@ -60,12 +32,12 @@ unfolding sameValues
 same-equal [] [] e = refl
 same-equal [] (v ∷ vs) e = absurd (false≢true e)
 same-equal (u ∷ us) [] e = absurd (false≢true e)
-same-equal (u ∷ us) (v ∷ vs) e = by-test (isOther v u) refl (same-equal us vs) (rw same-cons at e) where
-  by-test : (t : Bool) → isOther v u ≡ t → (sameValues us vs ≡ true → us ≡ vs)
+same-equal (u ∷ us) (v ∷ vs) e = by-test (differ u v) refl (same-equal us vs) e where
+  by-test : (t : Bool) → differ u v ≡ t → (sameValues us vs ≡ true → us ≡ vs)
       → cond t false (sameValues us vs) ≡ true
       → u ∷ us ≡ v ∷ vs
   by-test true o rest e′ = absurd (false≢true e′)
-  by-test false o rest e′ = cc (not-other v u o, rest e′)
+  by-test false o rest e′ = cc (not-other u v o, rest e′)
 
 -- Values that stay write no line.
 pub changes-none : (code : ℕ) (vs : List Bool) → changesFrom code vs vs ≡ []
@@ -82,7 +54,7 @@ changes-some code [] [] h e = absurd (true≢false e)
 changes-some code [] (v ∷ vs) h e = absurd (omega arith)
 changes-some code (u ∷ us) [] h e = absurd (omega arith)
 changes-some code (u ∷ us) (v ∷ vs) h e =
-    rw (change-line code u v) (by-test (isOther v u) (changes-some (suc code) us vs (omega arith)) (rw same-cons at e)) where
+    by-test (differ u v) (changes-some (suc code) us vs (omega arith)) e where
       by-test : (t : Bool) → (sameValues us vs ≡ false → 0 < length (changesFrom (suc code) us vs))
           → cond t false (sameValues us vs) ≡ false
           → 0 < length (cond t (valueLine code v) [] ++ changesFrom (suc code) us vs)
@@ -117,12 +89,12 @@ changes-past (suc k) code (old ∷ olds) (new ∷ news) e =
 
 -- From a wire that changes on: its line, and the changes of the others.
 pub changes-at : (code i : ℕ) (olds news : List Bool) → i < length olds → i < length news
-    → isOther (getD news i false) (getD olds i false) ≡ true
+    → differ (getD olds i false) (getD news i false) ≡ true
     → changesFrom (code + i) (drop i olds) (drop i news)
     ≡ valueLine (code + i) (getD news i false) ++ changesFrom (code + suc i) (drop (suc i) olds) (drop (suc i) news)
 unfolding changesFrom
 changes-at code i olds news h k e =
-    rw (drop-cons olds i false h, drop-cons news i false k, add-suc code i, change-line (code + i), e)
+    rw (drop-cons olds i false h, drop-cons news i false k, add-suc code i, e)
 
 -- ---- The digits of a time
 

@@ -29,6 +29,7 @@ use Rattle.dump.specs.Dumps.{
   valueLine,
   valueLines,
   headText,
+  differ,
   changesFrom,
   timeLine,
   momentText,
@@ -47,7 +48,6 @@ use Rattle.readback.specs.Bytes.{
   atClosing,
   atLine,
   atTime,
-  isOther,
   atCode,
   atEnd,
   byteOf,
@@ -57,8 +57,6 @@ use Rattle.readback.specs.Values.{valuesFrom, valuesAt, sameValues, show
 use Rattle.dump.proofs.Lines.{is-timed}
 use Rattle.readback.proofs.Lines.{
   not-other,
-  change-line,
-  same-cons,
   same-equal,
   changes-none,
   changes-some,
@@ -223,7 +221,7 @@ change-code : (value : Bool) (code time next wire : ℕ) (values : List Bool) (b
     → code ≡ firstCode + wire
     → next ≤ wire
     → wire < wires
-    → isOther value (getD values wire false) ≡ true
+    → differ (getD values wire false) value ≡ true
     → readAt (Code value) time next values (code ∷ bytes) ≡ readAt End time (suc wire) (set values wire value) bytes
 unfolding readFrom begins complete byteOf atCode
 change-code value code time next wire values bytes h after below other =
@@ -243,7 +241,7 @@ change-read : (new old : Bool) (code time next wire : ℕ) (told others : List B
     → length told ≡ wire
     → next ≤ wire
     → wire < wires
-    → isOther new old ≡ true
+    → differ old new ≡ true
     → readAt Line time next (told ++ old ∷ others) (valueLine code new ++ bytes)
     ≡ readAt Line time (suc wire) (told ++ new ∷ others) bytes
 change-read new old code time next wire told others bytes h at after below other =
@@ -257,7 +255,7 @@ change-read new old code time next wire told others bytes h at after below other
 afterLast : ℕ → ℕ → List Bool → List Bool → ℕ
 afterLast next wire [] news = next
 afterLast next wire (old ∷ olds) [] = next
-afterLast next wire (old ∷ olds) (new ∷ news) = afterLast (cond (isOther new old) (suc wire) next) (suc wire) olds news
+afterLast next wire (old ∷ olds) (new ∷ news) = afterLast (cond (differ old new) (suc wire) next) (suc wire) olds news
 
 -- The changes of the wires from one on give these their new values.
 changes-read : (olds news : List Bool) (code time next wire : ℕ) (told : List Bool) (rest : List ℕ)
@@ -273,10 +271,10 @@ changes-read [] [] code time next wire told rest h at after long all = refl
 changes-read [] (new ∷ news) code time next wire told rest h at after long all = absurd (omega arith)
 changes-read (old ∷ olds) [] code time next wire told rest h at after long all = absurd (omega arith)
 changes-read (old ∷ olds) (new ∷ news) code time next wire told rest h at after long all =
-    rw (change-line code old new) (by-test (isOther new old) refl
+    by-test (differ old new) refl
     (λ next′ after′. changes-read olds news (suc code) time next′ (suc wire) (told ++ new ∷ []) rest (omega arith)
-    (one-more told new wire at) after′ (omega arith) (omega arith))) where
-      by-test : (t : Bool) → isOther new old ≡ t
+    (one-more told new wire at) after′ (omega arith) (omega arith)) where
+      by-test : (t : Bool) → differ old new ≡ t
           → ((next′ : ℕ) → next′ ≤ suc wire
           → readAt Line time next′ (told ++ new ∷ [] ++ olds) (changesFrom (suc code) olds news ++ rest)
           ≡ readAt Line time (afterLast next′ (suc wire) olds news) (told ++ new ∷ [] ++ news) rest)
@@ -286,14 +284,14 @@ changes-read (old ∷ olds) (new ∷ news) code time next wire told rest h at af
           change-read new old code time next wire told olds (changesFrom (suc code) olds news ++ rest) h at after (omega arith) other
           ∙ rw (← append-snoc told new olds, ← append-snoc told new news) (on (suc wire) (omega arith))
       by-test false other on =
-          rw (not-other new old other, ← append-snoc told new olds, ← append-snoc told new news) (on next (omega arith))
+          rw (not-other old new other, ← append-snoc told new olds, ← append-snoc told new news) (on next (omega arith))
 
 -- Where something was told, something is told behind the changes.
 after-kept : (olds news : List Bool) (next wire : ℕ) → 0 < next → 0 < afterLast next wire olds news
 unfolding afterLast
 after-kept [] news next wire some = some
 after-kept (old ∷ olds) [] next wire some = some
-after-kept (old ∷ olds) (new ∷ news) next wire some = after-kept olds news _ (suc wire) (by-test (isOther new old)) where
+after-kept (old ∷ olds) (new ∷ news) next wire some = after-kept olds news _ (suc wire) (by-test (differ old new)) where
   by-test : (t : Bool) → 0 < cond t (suc wire) next
   by-test true = omega arith
   by-test false = some
@@ -306,7 +304,7 @@ after-other [] [] next wire h e = absurd (true≢false e)
 after-other [] (new ∷ news) next wire h e = absurd (omega arith)
 after-other (old ∷ olds) [] next wire h e = absurd (omega arith)
 after-other (old ∷ olds) (new ∷ news) next wire h e =
-    by-test (isOther new old) (after-other olds news next (suc wire) (omega arith)) (rw same-cons at e) where
+    by-test (differ old new) (after-other olds news next (suc wire) (omega arith)) e where
       by-test : (t : Bool) → (sameValues olds news ≡ false → 0 < afterLast next (suc wire) olds news)
           → cond t false (sameValues olds news) ≡ false
           → 0 < afterLast (cond t (suc wire) next) (suc wire) olds news

@@ -2,13 +2,13 @@
 -- refused for good, with 9.
 -- Assumes nothing.
 use Prim.Native.Nat.{ℕ, suc, _+_, _-_, _*_, _^_}
-use mathlib.Core.Bool.{Bool, true, false, cond, _&&_, _||_}
+use mathlib.Core.Bool.{Bool, false, cond, _&&_, _||_}
 use mathlib.Core.List.{List}
 use lib.Dec.{eqb, leb, ltb}
 use lib.ListN.{length, getD, set, replicate}
 use Rattle.common.specs.Decimal.{digit0}
 use Rattle.dump.specs.Wires.{wires, firstCode}
-use Rattle.dump.specs.Dumps.{openingText, closingText, lf, hash}
+use Rattle.dump.specs.Dumps.{openingText, closingText, lf, hash, differ}
 use Rattle.readback.specs.declared.Place.{Place}
 use Rattle.readback.specs.declared.Place.the-variants.{Opening, FirstValue, FirstCode, FirstEnd, Closing, Line, Time, Code, End, Bad}
 use Rattle.readback.specs.declared.Reader.{Reader}
@@ -42,14 +42,18 @@ told r place wire value = record { place = place; time = r .time; next = suc wir
 
 -- ---- Of the head
 
--- A text that every dump has there, byte for byte: a byte of it, at a place. Behind its last byte the reader is at another place.
-abbrev pub atText : List ℕ → Place → Place → Reader → ℕ → ℕ → Reader
-atText text behind on r at b =
-    cond (ltb at (length text) && eqb b (getD text at 0)) (moved r (cond (eqb (suc at) (length text)) behind on)) (bad r)
+-- A byte of a text that every dump has, by whether it is that byte and the last one: behind the last the reader is at another place.
+abbrev pub byteOfText : Reader → Bool → Bool → Place → Place → Reader
+byteOfText r same last on behind = cond same (moved r (cond last behind on)) (bad r)
+
+-- Such a text, byte for byte: the byte at a place of it.
+abbrev pub atText : List ℕ → (ℕ → Place) → Place → Reader → ℕ → ℕ → Reader
+atText text on behind r at b =
+    byteOfText r (ltb at (length text) && eqb b (getD text at 0)) (eqb (suc at) (length text)) (on (suc at)) behind
 
 -- What every dump begins with; behind it comes the first wire's value.
 unfoldable pub atOpening : Reader → ℕ → ℕ → Reader
-atOpening r at b = atText openingText FirstValue (Opening (suc at)) r at b
+atOpening r at b = atText openingText Opening FirstValue r at b
 
 -- The value of the next wire at time 0, its code, and LF; behind the last wire comes `$end`.
 unfoldable pub atFirstValue : Reader → ℕ → Reader
@@ -63,7 +67,7 @@ atFirstEnd r b = cond (eqb b lf) (moved r (cond (ltb (r .next) wires) FirstValue
 
 -- `$end`; behind it every wire has been told.
 unfoldable pub atClosing : Reader → ℕ → ℕ → Reader
-atClosing r at b = atText closingText Line (Closing (suc at)) r at b
+atClosing r at b = atText closingText Closing Line r at b
 
 -- ---- Of a moment
 
@@ -91,16 +95,10 @@ atTime r n b =
     (cond (eqb b lf && ltb (r .time) n) (record { place = Line; time = n; next = 0; values = r .values })
     (bad r))
 
--- The code of a wire that is not before the next one, and whose value is another.
-abbrev pub isOther : Bool → Bool → Bool
-isOther true true = false
-isOther true false = true
-isOther false true = true
-isOther false false = false
-
+-- The code of a wire that is not before the next one, and whose value changes.
 unfoldable pub atCode : Reader → Bool → ℕ → Reader
 atCode r value b =
-    cond (leb firstCode b && (leb (r .next) (wireOf b) && (ltb (wireOf b) wires && isOther value (getD (r .values) (wireOf b) false))))
+    cond (leb firstCode b && (leb (r .next) (wireOf b) && (ltb (wireOf b) wires && differ (getD (r .values) (wireOf b) false) value)))
     (told r End (wireOf b) value)
     (bad r)
 

@@ -4,7 +4,7 @@ use Prim.Native.Nat.{ℕ}
 use mathlib.Core.Bool.{Bool, true, false, cond}
 use mathlib.Core.List.{List, [], _∷_}
 use lib.Dec.{leb}
-use Rattle.dump.specs.Dumps.{Moment}
+use Rattle.dump.specs.Dumps.{Moment, differ}
 
 -- The values at a time: those of the last moment that is not after it, or these where there is none.
 unfoldable pub valuesFrom : List Bool → ℕ → List Moment → List Bool
@@ -19,10 +19,7 @@ unfoldable pub sameValues : List Bool → List Bool → Bool
 sameValues [] [] = true
 sameValues [] (v ∷ vs) = false
 sameValues (u ∷ us) [] = false
-sameValues (true ∷ us) (true ∷ vs) = sameValues us vs
-sameValues (true ∷ us) (false ∷ vs) = false
-sameValues (false ∷ us) (true ∷ vs) = false
-sameValues (false ∷ us) (false ∷ vs) = sameValues us vs
+sameValues (u ∷ us) (v ∷ vs) = cond (differ u v) false (sameValues us vs)
 
 -- The moments that are written: the first, and each at which something changes.
 unfoldable pub shownAfter : List Bool → List Moment → List Moment

@@ -11,6 +11,7 @@ ghost use Rattle.readback.specs.Bytes.{
   bad,
   isValue,
   told,
+  byteOfText,
   atOpening,
   atFirstValue,
   atFirstCode,
@@ -35,14 +36,10 @@ ghost use Rattle.readback.specs.Reads.{
   takeOf,
   finishOf,
 };
+use dump::FIRST;
+use dump::WIRES;
 
 pub mod sheets;
-
-// There are so many wires.
-const WIRES: usize = 26;
-
-// The code of the first wire; each next wire has the next.
-const FIRST: u8 = b'!';
 
 // Where in a dump the reader is.
 pub enum Place {
@@ -187,6 +184,19 @@ impl Reader {
         }
     }
 
+    // A byte of a text that every dump has, by whether it is that byte and the last one.
+    fn at_text(self, same: bool, last: bool, on: Place, behind: Place) -> Self
+        ensures { λ r. ⌜ r ≡ byteOfText self same last on behind ⌝ }
+    {
+        if same {
+            if last {
+                return self.moved(behind);
+            }
+            return self.moved(on);
+        }
+        self.bad()
+    }
+
     // What every dump begins with.
     fn at_opening(self, at: usize, b: u8) -> Self
         ensures { λ r. ⌜ r ≡ atOpening self at b ⌝ }
@@ -194,13 +204,9 @@ impl Reader {
         if dump::OPENING_LENGTH <= at {
             return self.bad();
         }
-        if b != dump::opening_byte(at) {
-            return self.bad();
-        }
-        if at + 1 == dump::OPENING_LENGTH {
-            return self.moved(Place::FirstValue);
-        }
-        self.moved(Place::Opening(at + 1))
+        let same = b == dump::opening_byte(at);
+        let last = at + 1 == dump::OPENING_LENGTH;
+        self.at_text(same, last, Place::Opening(at + 1), Place::FirstValue)
     }
 
     // The value of the next wire at time 0.
@@ -248,13 +254,9 @@ impl Reader {
         if dump::CLOSING_LENGTH <= at {
             return self.bad();
         }
-        if b != dump::closing_byte(at) {
-            return self.bad();
-        }
-        if at + 1 == dump::CLOSING_LENGTH {
-            return self.moved(Place::Line);
-        }
-        self.moved(Place::Closing(at + 1))
+        let same = b == dump::closing_byte(at);
+        let last = at + 1 == dump::CLOSING_LENGTH;
+        self.at_text(same, last, Place::Closing(at + 1), Place::Line)
     }
 
     // The start of a line behind the head.
@@ -315,7 +317,7 @@ impl Reader {
             return self.bad();
         }
         let values = self.values;
-        if value == values[wire] {
+        if values[wire] == value {
             return self.bad();
         }
         self.told(Place::End, wire, value)

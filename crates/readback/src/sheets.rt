@@ -7,7 +7,7 @@ ghost use lib.ListN.{length};
 ghost use Rattle.common.specs.Ascii.{comma};
 ghost use Rattle.texts.specs.Puts.{Put, putOf};
 ghost use Rattle.readback.specs.Sheets.{sheetHeader, sheetRow, valueField, laterFields};
-use crate::WIRES;
+use dump::WIRES;
 
 // `time` and the wires' names.
 const HEADER: [u8; 415] = *b"time,\

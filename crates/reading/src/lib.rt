@@ -1,17 +1,17 @@
 // What each row of a trace comes to: the header, the rows, their labels and the controller, with no output and no buffers.
 // The rule is specs/Rows.antt (document 01, "The trace and its program"). What is made of it is another crate's: `lesson`
-// writes it as the rows of `replay`.
+// writes it as the rows of `replay`, and `dumping` as the dump of `waves`.
 ghost use mathlib.Core.Path.{_≡_};
 ghost use Rattle.reading.specs.Lasts.{lastHeard};
-ghost use Rattle.reading.specs.Rows.{hasEnded, nextDue, lineOf, endsAt, headerRow, answerTo, traceRow, rowOf, overOf, endOf, nothingRead};
+ghost use Rattle.reading.specs.Rows.{hasEnded, nextDue, lineOf, untold, endsAt, headerRow, answerTo, traceRow, rowOf, overOf, endOf, nothingRead};
 use controller::Answer;
 use controller::State;
 use lines::Final;
 use trace::Due;
 use trace::Row;
 
-// A row has at most so many bytes.
-const LINE: usize = 512;
+// A row has at most so many bytes, and so has the line buffer.
+pub const LINE: usize = 512;
 
 // How far a trace has been read.
 pub enum Phase {
@@ -89,13 +89,11 @@ fn header_row(state: State, row: &[u8]) -> Heard
         return ends_at(1, 6, state);
     }
     if trace::is_header(row) {
-        return Heard {
-            reading: Reading {
-                phase: Phase::Rows(Due::Label(0)),
-                state,
-            },
-            came: Came::Nothing,
+        let reading = Reading {
+            phase: Phase::Rows(Due::Label(0)),
+            state,
         };
+        return reading.untold();
     }
     ends_at(1, 5, state)
 }
@@ -164,6 +162,16 @@ impl Reading {
         }
     }
 
+    // There is nothing to tell.
+    fn untold(self) -> Heard
+        ensures { λ r. ⌜ r ≡ untold self ⌝ }
+    {
+        Heard {
+            reading: self,
+            came: Came::Nothing,
+        }
+    }
+
     // One row, without its line break.
     pub fn row(self, row: &[u8]) -> Heard
         ensures { λ r. ⌜ r ≡ rowOf self (now (row .entry)) ⌝ }
@@ -176,10 +184,7 @@ impl Reading {
             Phase::Ended {
                 line: _,
                 refusal: _,
-            } => Heard {
-                reading: self,
-                came: Came::Nothing,
-            },
+            } => self.untold(),
         }
     }
 
@@ -195,10 +200,7 @@ impl Reading {
             Phase::Ended {
                 line: _,
                 refusal: _,
-            } => Heard {
-                reading: self,
-                came: Came::Nothing,
-            },
+            } => self.untold(),
         }
     }
 
@@ -210,17 +212,11 @@ impl Reading {
         let state = self.state;
         match phase {
             Phase::Header => ends_at(1, 5, state),
-            Phase::Rows(_) => Heard {
-                reading: self,
-                came: Came::Nothing,
-            },
+            Phase::Rows(_) => self.untold(),
             Phase::Ended {
                 line: _,
                 refusal: _,
-            } => Heard {
-                reading: self,
-                came: Came::Nothing,
-            },
+            } => self.untold(),
         }
     }
 

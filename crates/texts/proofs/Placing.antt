@@ -1,11 +1,11 @@
 -- A piece of text in a line, byte by byte or its last digit first, and the text that the line then holds.
 -- Assumes nothing.
 use Prim.Native.Nat.{ℕ, suc, _+_, _-_, _/_, _%_, _^_, _<_, _≤_}
-use native.Mathlib.Nat.{le-antisymm, add-assoc, zero-add}
+use native.Mathlib.Nat.{le-antisymm, add-assoc, add-zero, zero-add}
 use native.Mathlib.Numerals.{add-one}
 use native.Mathlib.Omega.{arith}
-use mathlib.Core.List.{List, _∷_, _++_, append-assoc}
-use mathlib.Core.Path.{_≡_, sym, ap, subst, _∙_}
+use mathlib.Core.List.{List, [], _∷_, _++_, append-assoc, append-nil}
+use mathlib.Core.Path.{_≡_, refl, sym, ap, subst, _∙_}
 use Rattle.common.proofs.Pairs.{both}
 use borrow.Author.Tests.{le-leb, lt-leb}
 use lib.ListN.{length, getD, set, take, drop, length-append, length-set, length-take, length-drop, take-append-drop}
@@ -76,6 +76,11 @@ module _ {before : List ℕ} {at : ℕ} {piece after : List ℕ} {next : ℕ} (r
     where
       long : length (placed before at piece) ≡ length before
       long = simp (length-append, length-take, length-drop) (omega arith)
+
+-- Nothing is put.
+pub put-nothing : (line : List ℕ) (at : ℕ) → Put line at [] line at
+put-nothing line at =
+    record { place = sym (add-zero at); size = refl; text = sym (append-nil (take at line)); past = refl }
 
 -- Two pieces, the second after the first, are one.
 pub then : {before : List ℕ} {at : ℕ} {one between : List ℕ} {next : ℕ} {two after : List ℕ} {last : ℕ}

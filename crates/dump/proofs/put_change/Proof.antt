@@ -2,8 +2,8 @@
 -- Assumes nothing.
 use mathlib.Core.Path.{sym}
 use borrow.Author.Needs.{needs}
-use Rattle.texts.proofs.Placing.{same-piece}
-use Rattle.dump.proofs.Lines.{unchanged, changed, put-nothing}
+use Rattle.texts.proofs.Placing.{same-piece, put-nothing}
+use Rattle.dump.proofs.Lines.{unchanged, changed}
 use Rattle.dump.proofs.put_change.Statement.{statement}
 use Rattle.dump.proofs.put_change.Tie as tie
 

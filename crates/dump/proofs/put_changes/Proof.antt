@@ -7,10 +7,10 @@ use mathlib.Core.Path.{_≡_, refl, ap₂, _∙_}
 use lib.ListN.{length, getD, take}
 use lib.Seq.{take-all}
 use Rattle.texts.specs.Puts.{Put}
-use Rattle.texts.proofs.Placing.{then, same-piece}
+use Rattle.texts.proofs.Placing.{then, same-piece, put-nothing}
 use Rattle.dump.specs.Wires.{firstCode}
 use Rattle.dump.specs.Dumps.{changesFrom}
-use Rattle.dump.proofs.Lines.{changes-turn, change-length, put-nothing}
+use Rattle.dump.proofs.Lines.{changes-turn, change-length}
 use borrow.Author.Needs.{needs}
 use Rattle.dump.proofs.put_changes.Statement.{statement}
 use Rattle.dump.proofs.put_changes.Tie as tie

@@ -6,10 +6,10 @@ use mathlib.Core.Path.{_≡_, refl, ap, _∙_}
 use lib.ListN.{length, take}
 use lib.Seq.{take-all}
 use Rattle.texts.specs.Puts.{Put}
-use Rattle.texts.proofs.Placing.{then, same-piece}
+use Rattle.texts.proofs.Placing.{then, same-piece, put-nothing}
 use Rattle.dump.specs.Wires.{firstCode}
 use Rattle.dump.specs.Dumps.{valueLines}
-use Rattle.dump.proofs.Lines.{values-turn, put-nothing}
+use Rattle.dump.proofs.Lines.{values-turn}
 use borrow.Author.Needs.{needs}
 use Rattle.dump.proofs.put_values.Statement.{statement}
 use Rattle.dump.proofs.put_values.Tie as tie

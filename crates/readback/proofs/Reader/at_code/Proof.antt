@@ -6,7 +6,7 @@ use lib.ListN.{getD}
 use borrow.Author.Tests.{le-leb, lt-leb, lt-ltb, le-ltb}
 use borrow.Author.Needs.{needs}
 use Rattle.readback.specs.Bytes.{atCode}
-use Rattle.readback.proofs.Lines.{is-same, is-another}
+use Rattle.dump.proofs.Lines.{is-same, is-another}
 use Rattle.readback.proofs.Reader.at_code.Statement.{statement}
 use Rattle.readback.proofs.Reader.at_code.Tie as tie
 
@@ -60,7 +60,7 @@ returns-4 c =
       le-leb 33 _ (test .before .before .if1 .left),
       le-leb _ _ (test .if2 .left),
       lt-ltb _ 26 (past .if3 .left),
-      is-same (a .value) (getD (a .self .values) (a .b - 33) false) (c .before .if4 .taken),
+      is-same (getD (a .self .values) (a .b - 33) false) (a .value) (c .before .if4 .taken),
     )
 
 told-requires : tie.Need-told-requires
@@ -77,7 +77,7 @@ returns-5 c =
       le-leb 33 _ (test .before .before .if1 .left),
       le-leb _ _ (test .if2 .left),
       lt-ltb _ 26 (past .if3 .left),
-      is-another (a .value) (getD (a .self .values) (a .b - 33) false) (c .before .if4 .left),
+      is-another (getD (a .self .values) (a .b - 33) false) (a .value) (c .before .if4 .left),
     )
 
 pub at-code-spec : {M : Type 1} → statement M

@@ -1,15 +1,12 @@
--- `readback::Reader::at_opening` meets its contract: past the text, another byte, the last byte and one before it.
+-- `readback::Reader::at_opening` meets its contract: past the text, and within it.
 -- Assumes nothing.
-use Prim.Native.Nat.{ℕ, suc}
-use native.Mathlib.Numerals.{add-one}
-use mathlib.Core.Path.{_≡_, sym, ap, _∙_}
-use lib.ListN.{getD}
 use borrow.Author.Needs.{needs}
+use mathlib.Core.Path.{_∙_}
 use Rattle.dump.specs.Dumps.{openingText}
 use Rattle.dump.proofs.Lines.{opening-length}
-use Rattle.readback.specs.declared.Place.the-variants.{FirstValue, Opening}
-use Rattle.readback.specs.Bytes.{moved, atOpening}
-use Rattle.readback.proofs.FixedTexts.{past-text, another-byte, last-byte, inner-byte}
+use Rattle.readback.specs.declared.Place.the-variants.{Opening, FirstValue}
+use Rattle.readback.specs.Bytes.{atOpening}
+use Rattle.readback.proofs.FixedTexts.{past-text, within-text}
 use Rattle.readback.proofs.Reader.at_opening.Statement.{statement}
 use Rattle.readback.proofs.Reader.at_opening.Tie as tie
 
@@ -20,68 +17,29 @@ returns : tie.Need-returns
 unfolding atOpening
 returns c =
     let a = c .before .before .args in
-    c .bad .ensures ∙ past-text openingText FirstValue (Opening (suc (a .at))) (a .self) (a .at) (a .b) 995 opening-length (c .before .if1 .taken)
+    c .bad .ensures ∙ past-text openingText Opening FirstValue (a .self) (a .at) (a .b) 995 opening-length (c .before .if1 .taken)
 
 opening-byte-requires : tie.Need-opening-byte-requires
 opening-byte-requires c κs = search needs
 
-bad-requires-2 : tie.Need-bad-requires-2
-bad-requires-2 c κs = search needs
+add-last : tie.Need-add-last
+add-last c = search needs
+
+add-t8 : tie.Need-add-t8
+add-t8 c = search needs
+
+at-text-requires : tie.Need-at-text-requires
+at-text-requires c κs = search needs
 
 returns-2 : tie.Need-returns-2
 unfolding atOpening
 returns-2 c =
-    let byte = c .before .before in
+    let byte = c .before in
     let a = byte .before .before .args in
-    c .bad2 .ensures
-    ∙ another-byte openingText FirstValue (Opening (suc (a .at))) (a .self) (a .at) (a .b) 995 opening-length (byte .before .if1 .left)
-    (λ e. c .before .if2 .taken (e ∙ sym (byte .opening-byte .ensures)))
-
-add-if3 : tie.Need-add-if3
-add-if3 c = search needs
-
-moved-requires : tie.Need-moved-requires
-moved-requires c κs = search needs
-
-returns-3 : tie.Need-returns-3
-unfolding atOpening
-returns-3 c =
-    let test = c .before in
-    let byte = test .before .before in
-    let a = byte .before .before .args in
-    c .moved .ensures
-    ∙ last-byte openingText FirstValue (Opening (suc (a .at))) (a .self) (a .at) (a .b) 995 opening-length (byte .before .if1 .left)
-    (test .before .if2 .left ∙ byte .opening-byte .ensures) (test .if3 .taken)
-
-add-t6 : tie.Need-add-t6
-add-t6 c = search needs
-
-moved-requires-2 : tie.Need-moved-requires-2
-moved-requires-2 c κs = search needs
-
-returns-4 : tie.Need-returns-4
-unfolding atOpening
-returns-4 c =
-    let test = c .before in
-    let byte = test .before .before in
-    let a = byte .before .before .args in
-    c .moved2 .ensures
-    ∙ ap (λ (n : ℕ). moved (a .self) (Opening n)) (add-one (a .at))
-    ∙ inner-byte openingText FirstValue (Opening (suc (a .at))) (a .self) (a .at) (a .b) 995 opening-length (byte .before .if1 .left)
-    (test .before .if2 .left ∙ byte .opening-byte .ensures) (test .if3 .left)
+    c .at-text .ensures
+    ∙ within-text openingText Opening FirstValue (a .self) (a .at) (a .b) 995 opening-length _ (byte .opening-byte .ensures) (byte .before .if1 .left)
 
 pub at-opening-spec : {M : Type 1} → statement M
 at-opening-spec =
     tie.close
-    (tie.spec
-    bad-requires
-    returns
-    opening-byte-requires
-    bad-requires-2
-    returns-2
-    add-if3
-    moved-requires
-    returns-3
-    add-t6
-    moved-requires-2
-    returns-4)
+    (tie.spec bad-requires returns opening-byte-requires add-last add-t8 at-text-requires returns-2)

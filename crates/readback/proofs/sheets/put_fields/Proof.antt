@@ -6,9 +6,8 @@ use mathlib.Core.Path.{_≡_, refl, ap, _∙_}
 use lib.ListN.{length, take}
 use lib.Seq.{take-all}
 use Rattle.texts.specs.Puts.{Put}
-use Rattle.texts.proofs.Placing.{then, same-piece}
+use Rattle.texts.proofs.Placing.{then, same-piece, put-nothing}
 use Rattle.readback.specs.Sheets.{laterFields}
-use Rattle.dump.proofs.Lines.{put-nothing}
 use Rattle.readback.proofs.Fields.{fields-turn}
 use borrow.Author.Needs.{needs}
 use Rattle.readback.proofs.sheets.put_fields.Statement.{statement}
