@@ -3,7 +3,7 @@
 // writes it as the rows of `replay`, and `dumping` as the dump of `waves`.
 ghost use mathlib.Core.Path.{_≡_};
 ghost use Rattle.reading.specs.Lasts.{lastHeard};
-ghost use Rattle.reading.specs.Rows.{hasEnded, nextDue, lineOf, untold, endsAt, headerRow, answerTo, traceRow, rowOf, overOf, endOf, nothingRead};
+ghost use Rattle.reading.specs.Rows.{hasEnded, nextDue, lineOf, endsAt, headerRow, answerTo, traceRow, rowOf, overOf, endOf, nothingRead};
 use controller::Answer;
 use controller::State;
 use lines::Final;
@@ -89,11 +89,13 @@ fn header_row(state: State, row: &[u8]) -> Heard
         return ends_at(1, 6, state);
     }
     if trace::is_header(row) {
-        let reading = Reading {
-            phase: Phase::Rows(Due::Label(0)),
-            state,
+        return Heard {
+            reading: Reading {
+                phase: Phase::Rows(Due::Label(0)),
+                state,
+            },
+            came: Came::Nothing,
         };
-        return reading.untold();
     }
     ends_at(1, 5, state)
 }
@@ -162,16 +164,6 @@ impl Reading {
         }
     }
 
-    // There is nothing to tell.
-    fn untold(self) -> Heard
-        ensures { λ r. ⌜ r ≡ untold self ⌝ }
-    {
-        Heard {
-            reading: self,
-            came: Came::Nothing,
-        }
-    }
-
     // One row, without its line break.
     pub fn row(self, row: &[u8]) -> Heard
         ensures { λ r. ⌜ r ≡ rowOf self (now (row .entry)) ⌝ }
@@ -184,7 +176,10 @@ impl Reading {
             Phase::Ended {
                 line: _,
                 refusal: _,
-            } => self.untold(),
+            } => Heard {
+                reading: self,
+                came: Came::Nothing,
+            },
         }
     }
 
@@ -200,7 +195,10 @@ impl Reading {
             Phase::Ended {
                 line: _,
                 refusal: _,
-            } => self.untold(),
+            } => Heard {
+                reading: self,
+                came: Came::Nothing,
+            },
         }
     }
 
@@ -212,11 +210,17 @@ impl Reading {
         let state = self.state;
         match phase {
             Phase::Header => ends_at(1, 5, state),
-            Phase::Rows(_) => self.untold(),
+            Phase::Rows(_) => Heard {
+                reading: self,
+                came: Came::Nothing,
+            },
             Phase::Ended {
                 line: _,
                 refusal: _,
-            } => self.untold(),
+            } => Heard {
+                reading: self,
+                came: Came::Nothing,
+            },
         }
     }
 

@@ -16,14 +16,9 @@ returns c = rw (lt-ltb _ _ (c .before .if1 .taken)) (c .ends-at .ensures)
 is-header-requires : tie.Need-is-header-requires
 is-header-requires c κs = search needs
 
-untold-requires : tie.Need-untold-requires
-untold-requires c κs = search needs
-
 returns-2 : tie.Need-returns-2
 unfolding headerRow
-returns-2 c =
-    let h = c .before in
-    rw (le-ltb _ _ (h .before .before .if1 .left), ← h .before .is-header .ensures, h .if2 .taken) (c .untold .ensures)
+returns-2 c = rw (le-ltb _ _ (c .before .before .if1 .left), ← c .before .is-header .ensures, c .if2 .taken)
 
 ends-at-requires-2 : tie.Need-ends-at-requires-2
 ends-at-requires-2 c κs = search needs
@@ -37,4 +32,4 @@ returns-3 c =
 pub header-row-spec : {M : Type 1} → statement M
 header-row-spec =
     tie.close
-    (tie.spec ends-at-requires returns is-header-requires untold-requires returns-2 ends-at-requires-2 returns-3)
+    (tie.spec ends-at-requires returns is-header-requires returns-2 ends-at-requires-2 returns-3)

@@ -1,6 +1,5 @@
 -- `reading::Reading::end` meets its contract: by the phase.
 -- Assumes nothing.
-use mathlib.Core.Path.{_∙_}
 use borrow.Author.Needs.{needs}
 use Rattle.reading.specs.Rows.{endOf}
 use Rattle.reading.proofs.Reading.end.Statement.{statement}
@@ -15,14 +14,8 @@ ends-at-requires c κs = search needs
 enum-told-2 : tie.Need-enum-told-2
 enum-told-2 c = search needs
 
-untold-requires : tie.Need-untold-requires
-untold-requires c κs = search needs
-
 enum-told-3 : tie.Need-enum-told-3
 enum-told-3 c = search needs
-
-untold-requires-2 : tie.Need-untold-requires-2
-untold-requires-2 c κs = search needs
 
 returns : tie.Need-returns
 unfolding endOf
@@ -30,13 +23,13 @@ returns c = rw (c .before .enum-told .given .1) (c .ends-at .ensures)
 
 returns-2 : tie.Need-returns-2
 unfolding endOf
-returns-2 c = c .untold .ensures ∙ rw (c .before .enum-told2 .given .1)
+returns-2 c = rw (c .enum-told2 .given .1)
 
 returns-3 : tie.Need-returns-3
 unfolding endOf
-returns-3 c = c .untold2 .ensures ∙ rw (c .before .enum-told3 .given .1)
+returns-3 c = rw (c .enum-told3 .given .1)
 
 pub end-spec : {M : Type 1} → statement M
 end-spec =
     tie.close
-    (tie.spec enum-told ends-at-requires enum-told-2 untold-requires enum-told-3 untold-requires-2 returns returns-2 returns-3)
+    (tie.spec enum-told ends-at-requires enum-told-2 enum-told-3 returns returns-2 returns-3)

@@ -1,6 +1,5 @@
 -- `reading::Reading::over` meets its contract: by the phase.
 -- Assumes nothing.
-use mathlib.Core.Path.{_∙_}
 use borrow.Author.Needs.{needs}
 use Rattle.reading.specs.Rows.{overOf}
 use Rattle.reading.proofs.Reading.over.Statement.{statement}
@@ -24,9 +23,6 @@ ends-at-requires-2 c κs = search needs
 enum-told-2 : tie.Need-enum-told-2
 enum-told-2 c = search needs
 
-untold-requires : tie.Need-untold-requires
-untold-requires c κs = search needs
-
 returns : tie.Need-returns
 unfolding overOf
 returns c = rw (c .before .enum-told .given .1) (c .ends-at .ensures)
@@ -37,7 +33,7 @@ returns-2 c = rw (c .before .before .before .phase .given .1, ← c .before .lin
 
 returns-3 : tie.Need-returns-3
 unfolding overOf
-returns-3 c = c .untold .ensures ∙ rw (c .before .enum-told2 .given .1)
+returns-3 c = rw (c .enum-told2 .given .1)
 
 pub over-spec : {M : Type 1} → statement M
 over-spec =
@@ -49,7 +45,6 @@ over-spec =
     line-of-requires
     ends-at-requires-2
     enum-told-2
-    untold-requires
     returns
     returns-2
     returns-3)

@@ -1,6 +1,5 @@
 -- `reading::Reading::row` meets its contract: by the phase.
 -- Assumes nothing.
-use mathlib.Core.Path.{_∙_}
 use borrow.Author.Needs.{needs}
 use Rattle.reading.specs.Rows.{rowOf}
 use Rattle.reading.proofs.Reading.row.Statement.{statement}
@@ -21,9 +20,6 @@ trace-row-requires c κs = search needs
 enum-told-2 : tie.Need-enum-told-2
 enum-told-2 c = search needs
 
-untold-requires : tie.Need-untold-requires
-untold-requires c κs = search needs
-
 returns : tie.Need-returns
 unfolding rowOf
 returns c = rw (c .before .enum-told .given .1) (c .header-row .ensures)
@@ -34,7 +30,7 @@ returns-2 c = rw (c .before .before .phase .given .1) (c .trace-row .ensures)
 
 returns-3 : tie.Need-returns-3
 unfolding rowOf
-returns-3 c = c .untold .ensures ∙ rw (c .before .enum-told2 .given .1)
+returns-3 c = rw (c .enum-told2 .given .1)
 
 pub row-spec : {M : Type 1} → statement M
 row-spec =
@@ -45,7 +41,6 @@ row-spec =
     enum-known-phase
     trace-row-requires
     enum-told-2
-    untold-requires
     returns
     returns-2
     returns-3)
