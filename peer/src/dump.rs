@@ -5,7 +5,7 @@
 
 use crate::rig::{majority, Rig};
 use crate::rules::{Rules, Slip};
-use crate::trace::{decimal, run, Ended, Row, Sink, Stopped};
+use crate::trace::{decimal, run, Ended, Reading, Row, Sink, Start, Stopped};
 use std::io::{self, ErrorKind, Read, Write};
 
 pub const COUNT: usize = 26;
@@ -224,7 +224,7 @@ impl<W: Write> Sink for Waves<W> {
 
 /// `waves`: a trace in, its dump out; the whole program but for its message on standard error.
 /// With no row 0 nothing is written.
-pub fn waves(r: &Rules, input: impl Read, out: impl Write) -> Result<Option<Ended>, Stopped> {
+pub fn waves(r: &Rules, input: impl Read, out: impl Write) -> Reading {
     let mut waves = Waves {
         out,
         buf: Vec::with_capacity(1 << 17),
@@ -236,7 +236,7 @@ pub fn waves(r: &Rules, input: impl Read, out: impl Write) -> Result<Option<Ende
         stalled: false,
         refused: false,
     };
-    run(r, input, &mut waves)
+    run(r, Start::Fresh, input, &mut waves)
 }
 
 /// Why a dump got 9.

@@ -48,18 +48,23 @@ const TRACES: [(&str, &str); 29] = [
     ("bad_label_late", "ended by 7 late: the dump has what was accepted before"),
 ];
 
-/// The traces whose dump is stored: of the first folder that has it, else the peer's own.
+/// A trace of a name: of the first folder that has it, else the peer's own.
+pub(crate) fn find_trace(
+    folders: &[&Path],
+    name: &str,
+    own: impl Fn() -> Option<Vec<u8>>,
+) -> io::Result<Vec<u8>> {
+    match folders.iter().map(|f| f.join(name.to_string() + ".in")).find(|path| path.exists()) {
+        Some(path) => std::fs::read(path),
+        None => own().ok_or_else(|| io::Error::new(NotFound, format!("there is no {name}.in"))),
+    }
+}
+
+/// The traces whose dump is stored.
 pub fn dump_traces(folders: &[&Path]) -> io::Result<Vec<Stored>> {
-    let own = vectors();
-    let get = |(name, reason): (&'static str, &'static str)| {
-        let found = folders.iter().map(|f| f.join(name.to_string() + ".in")).find(|path| path.exists());
-        let text = match (found, own.iter().find(|v| v.0 == name)) {
-            (Some(path), _) => std::fs::read(path)?,
-            (None, Some((_, text))) => text.clone(),
-            (None, None) => return Err(io::Error::new(NotFound, format!("there is no {name}.in"))),
-        };
-        Ok((name, reason, text))
-    };
+    let all = vectors();
+    let own = |name: &str| all.iter().find(|v| v.0 == name).map(|v| v.1.clone());
+    let get = |(name, reason)| Ok((name, reason, find_trace(folders, name, || own(name))?));
     TRACES.into_iter().map(get).collect()
 }
 

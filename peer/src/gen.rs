@@ -61,9 +61,12 @@ pub fn same(seen: u32) -> [u32; 3] {
 impl Tape {
     /// Header and row 0.
     pub fn new(stamp: u32, sample: [u32; 3]) -> Tape {
-        let rules = Rules::default();
-        let rig = Rig::fresh(&rules, stamp);
-        let mut tape = Tape { text: HEADER.to_vec(), rig, rows: 0, rules };
+        Tape::onward(Rig::fresh(&Rules::default(), stamp), sample)
+    }
+    /// Header and row 0 of a trace that goes on with a controller, from its stamp.
+    pub fn onward(rig: Rig, sample: [u32; 3]) -> Tape {
+        let stamp = rig.stamp;
+        let mut tape = Tape { text: HEADER.to_vec(), rig, rows: 0, rules: Rules::default() };
         tape.text.extend_from_slice(b"\r\n");
         tape.write(stamp, sample);
         tape
@@ -250,18 +253,22 @@ pub fn lesson(rows: u64) -> Tape {
     tape
 }
 
-/// Sensors that say anything; most samples that would latch the anomaly are drawn again.
-pub fn adversarial(r: &mut Rng) -> Tape {
+/// Sensors that say anything; most samples that would latch the anomaly are drawn again. From a fresh
+/// start, or from a controller as it stands but for its stamp.
+pub fn adversarial(r: &mut Rng, from: Option<&Rig>) -> Tape {
     let count = r.range(20, 600);
     let pace = Pace::new(r);
     let patience = r.pick(&[0, 900, 990, 998, 1000]);
     let flips = r.range(1, 4);
-    let mut seen = if r.permille(500) { AT_REST } else { r.draw() as u32 & SENSORS };
-    let mut tape = Tape::new(r.stamp(), std::array::from_fn(|_| r.draw() as u32 & SENSORS));
+    let at_rest = from.map_or(AT_REST, |rig| rig.held);
+    let mut seen = if r.permille(500) { at_rest } else { r.draw() as u32 & SENSORS };
+    let stamp = r.stamp();
+    let rig = from.map_or_else(|| Rig::fresh(&Rules::default(), stamp), |rig| Rig { stamp, ..rig.clone() });
+    let mut tape = Tape::onward(rig, std::array::from_fn(|_| r.draw() as u32 & SENSORS));
     let mut after_red = r.range(3, 40);
     while tape.rows < count && after_red > 0 {
         let elapsed = pace.next(r);
-        let mut next = seen;
+        let (mut next, mut sample) = (seen, same(seen));
         for attempt in 0..30 {
             next = seen;
             for _ in 0..r.below(flips + 1) {
@@ -281,15 +288,28 @@ pub fn adversarial(r: &mut Rng) -> Tape {
             if attempt > 3 {
                 next = repair(&tape.rig, elapsed, next, attempt > 15);
             }
-            if !tape.would_be_red(elapsed, same(next)) || !r.permille(patience) {
+            sample = if from.is_some() { bounced(r, &tape.rig, next) } else { same(next) };
+            if !tape.would_be_red(elapsed, sample) || !r.permille(patience) {
                 break;
             }
         }
         seen = next;
-        tape.after(elapsed, same(seen));
+        tape.after(elapsed, sample);
         after_red -= u64::from(tape.red());
     }
     tape
+}
+
+/// Channels that do not count say anything, and now and then one that counts says otherwise.
+fn bounced(r: &mut Rng, rig: &Rig, seen: u32) -> [u32; 3] {
+    let mut sample = same(seen);
+    for (channel, says) in sample.iter_mut().enumerate() {
+        *says ^= r.draw() as u32 & SENSORS & (!rig.ok[channel] | rig.invalid);
+    }
+    if r.permille(20) {
+        sample[r.index(3)] ^= 1 << r.below(18);
+    }
+    sample
 }
 
 /// The sample with switch and pressure (and doors and gears) as no monitor minds them.
@@ -457,14 +477,20 @@ const ENDS: [(u32, u32); 4] = [(14, 11), (11, 14), (2, 5), (5, 2)];
 
 impl Script {
     pub fn new(stamp: u32) -> Script {
+        Script::onward(Rig::fresh(&Rules::default(), stamp))
+    }
+
+    /// Goes on with a controller; what it holds is what is seen.
+    pub fn onward(rig: Rig) -> Script {
+        let seen = rig.held;
         Script {
-            tape: Tape::new(stamp, same(AT_REST)),
+            tape: Tape::onward(rig, same(seen)),
             travel: [[Travel { leave: 100, arrive: 300 }; 3]; 4],
             rise: 100,
             fall: 1_000,
             switch: (0, 20_500),
-            down: true,
-            seen: AT_REST,
+            down: seen & HANDLE != 0,
+            seen,
         }
     }
 
@@ -920,11 +946,16 @@ pub fn trace(seed: u64, kind: &str, rows: Option<u64>) -> Option<Vec<u8>> {
     let r = &mut Rng::new(seed);
     Some(match kind {
         "nominal" => nominal(r, rows).text,
-        "adversarial" => adversarial(r).text,
+        "adversarial" => adversarial(r, None).text,
         "channels" => channels(r).text,
         "stalls" => stalls(r).text,
         "edges" => edges(r).text,
         "damaged" => damaged(r),
         _ => return None,
     })
+}
+
+/// The trace of a seed that goes on from an image's controller.
+pub fn onward(seed: u64, rig: &Rig) -> Vec<u8> {
+    adversarial(&mut Rng::new(seed), Some(rig)).text
 }

@@ -1,5 +1,5 @@
-//! A second, independent implementation of document 01 with change requests K1 and K2, for differential
-//! tests.
+//! A second, independent implementation of document 01 with change requests K1, K2 and K3, for
+//! differential tests.
 #![forbid(unsafe_code)]
 
 pub mod cli;
@@ -7,6 +7,10 @@ pub mod damage;
 pub mod dump;
 pub mod dump_vectors;
 pub mod gen;
+pub mod handover;
+pub mod image;
+pub mod image_gen;
+pub mod image_vectors;
 pub mod rig;
 pub mod rules;
 pub mod trace;

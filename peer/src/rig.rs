@@ -50,18 +50,18 @@ pub enum Gears { Retracted, Extending, Extended, Retracting }
 #[derive(Clone, Debug)]
 pub struct Rig {
     pub stamp: u32,
-    now: u64,
-    since: [u64; 6],
+    pub(crate) now: u64,
+    pub(crate) since: [u64; 6],
     pub on: u8,
     /// Per channel, the sensors for which it is not struck.
-    ok: [u32; 3],
+    pub(crate) ok: [u32; 3],
     pub(crate) invalid: u32,
     pub held: u32,
     pub doors: Doors,
     pub gears: Gears,
     pub cause: u8,
     /// What a fault makes the lamps read in place of `held`.
-    aside: u32,
+    pub(crate) aside: u32,
 }
 
 impl Rig {
@@ -91,7 +91,7 @@ impl Rig {
 
     /// The age of an order or of the handle at time `at`.
     #[inline]
-    fn age_at(&self, r: &Rules, at: u64, clock: usize) -> u64 {
+    pub(crate) fn age_at(&self, r: &Rules, at: u64, clock: usize) -> u64 {
         let age = at.saturating_sub(self.since[clock]);
         if r.is(Slip::AgesGoRound) && at > 60_000 {
             age % 60_000
@@ -142,6 +142,8 @@ impl Rig {
         if self.cause == 0 || r.is(Slip::NotLatched) {
             let at = if r.is(Slip::MonitorsOldAge) { old } else { self.now };
             self.cause = first.unwrap_or_else(|| self.monitors(r, at));
+        } else if r.is(Slip::CauseReplaced) || r.is(Slip::CauseLowered) {
+            self.cause = self.later_cause(r);
         }
         if moved {
             self.since[HANDLE_CLOCK] = self.now;
@@ -232,6 +234,15 @@ impl Rig {
             _ => holds.iter().position(|&h| h),
         };
         found.map_or(0, |n| n as u8 + 1)
+    }
+
+    /// Faults only: a cause that holds later, or only a lower one, in place of the one kept.
+    fn later_cause(&self, r: &Rules) -> u8 {
+        match self.monitors(r, self.now) {
+            0 => self.cause,
+            later if r.is(Slip::CauseReplaced) => later,
+            later => later.min(self.cause),
+        }
     }
 
     /// Sequence: at most one move.

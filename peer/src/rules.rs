@@ -1,9 +1,11 @@
 //! The numbers of document 01 and, for tests, the faults that can be planted.
-//! `Rules::default()` is document 01 with K1's lamps and K2's dumps; every fault moves one number or
-//! makes one `Slip`.
+//! `Rules::default()` is document 01 with K1's lamps, K2's dumps and K3's images; every fault moves one
+//! number or makes one `Slip`.
 
-/// One way of getting document 01, K1 or K2 wrong that is not a moved number. A number in it is a
-/// unit: 0 front, 1 left, 2 right.
+use crate::rig::{CLOSE, EXTEND, GENERAL, HANDLE_CLOCK, OPEN, RETRACT};
+
+/// One way of getting document 01, K1, K2 or K3 wrong that is not a moved number. A number in it is a
+/// unit: 0 front, 1 left, 2 right; for images a sensor, an order, a clock, or doors and gears by number.
 #[derive(Clone, Copy, PartialEq, Eq, Debug)]
 #[rustfmt::skip]
 pub enum Slip {
@@ -59,6 +61,43 @@ pub enum Slip {
     RubbishEndsDump,
     // What the sheet then shows
     LastRowLost, RowOnRefusal, RowAtNextTime, ValuesStartAgain, SheetLf, NoSheetHeader,
+    // Not visible in the output rows, but in images
+    CauseReplaced, CauseLowered,
+    // Saving an image: of which state, with which values
+    ImageBefore, StallNoImage, StampOfRefused, StampOfStart, TornNoImage, ImageWithoutRow0,
+    AgesUncapped, AgeOfOff0, HandleAgeOfGeneral, InvalidAsStruck, StruckUnwritten, StruckAsInvalid,
+    InvalidHeld0, HeldUnvoted, CauseIsOne,
+    // Items and numbers, saved and loaded
+    LittleEndian, AgeBeforeOn, HeldBeforeVoter, VotersFirst, OpenCloseItems, RetractExtendItems,
+    GeneralLast, HandleAgeFirst, DoorsGearsItems, CauseFirst, StampLast, LeftRightItems, SensorsBackwards,
+    DoorsRenumbered, DoorsMovesSwapped, GearsEndsSwapped, GearsMovesSwapped, VotersFrom0, VotersBackwards,
+    // Taking an image: length, range, order
+    LongerTaken, ShorterTaken, LengthInFours, EmptyIsFresh, RuleBeforeRange, RefusalsSwapped,
+    ItemsSigned, ItemsLow16, SensorUnranged(usize), AgeUnranged(usize),
+    // Its rules
+    MovingUnchecked, MovingTakes(u32), MovingForgets(u32), OpenOnlyMoving,
+    UnwantedTaken, UnwantedOrder(usize), WantedMustBeOn, OpenWantedOpen,
+    RedOrdersTaken, RedOrder(usize), OrdersWithoutGeneral,
+    GeneralOffTaken, GeneralOffWith(u32), GeneralOffRed, GeneralOnClosed,
+    InvalidTaken, InvalidSensor(usize), InvalidOnly13, Cause13OnlyInvalid, StruckNeedsCause,
+    // Starting from one
+    StampKept, AgesLost, AgesFrom0, AgeLost(usize), AgesSinceImage, CauseLost, StruckLost, StruckNext,
+    InvalidLost, HeldLost, OrdersLost, Row0Stepped, FreshInstead,
+    // Showing one
+    ShownCrLf, ShownNoLastLf, ShownThousands, ShownChannels0, ShownCauseNext, ShownOnOff, ShownStampSigned,
+}
+
+/// The highest number of each sort of item in an image.
+#[derive(Clone, Debug)]
+pub struct Tops {
+    pub voter: u32,
+    pub held: u32,
+    pub on: u32,
+    pub age: u32,
+    pub handle_age: u32,
+    pub doors: u32,
+    pub gears: u32,
+    pub cause: u32,
 }
 
 #[derive(Clone, Debug)]
@@ -73,6 +112,7 @@ pub struct Rules {
     /// The age at which cause 11 holds no more.
     pub cause_11_end: u64,
     pub row_max: usize,
+    pub top: Tops,
     pub slip: Slip,
 }
 
@@ -89,6 +129,16 @@ impl Default for Rules {
             ],
             cause_11_end: 20_000,
             row_max: 512,
+            top: Tops {
+                voter: 4,
+                held: 1,
+                on: 1,
+                age: 60_000,
+                handle_age: 60_000,
+                doors: 3,
+                gears: 3,
+                cause: 13,
+            },
             slip: Slip::None,
         }
     }
@@ -262,12 +312,32 @@ pub fn faults() -> Vec<(String, Rules)> {
 /// Faults that no output row can show: the cause is not written; on a refusal 3 both stamps are
 /// equal; no threshold lies at the cap.
 pub fn unseen() -> Vec<(String, Rules)> {
-    let mut all =
-        slips(&[("highest_cause_kept", Slip::HighestCause), ("stamp_moved_on_3", Slip::StampMovedOn3)]);
+    let mut all = slips(&[("stamp_moved_on_3", Slip::StampMovedOn3)]);
+    all.extend(unseen_in_rows());
+    all
+}
+
+/// Those of them that an image shows.
+fn unseen_in_rows() -> Vec<(String, Rules)> {
+    let mut all = slips(&[
+        ("highest_cause_kept", Slip::HighestCause),
+        ("later_cause_replaces", Slip::CauseReplaced),
+        ("later_lower_cause_replaces", Slip::CauseLowered),
+    ]);
     for age_cap in [59_999, 60_001, 21_500] {
         all.push((format!("age_cap_{age_cap}"), Rules { age_cap, ..Rules::default() }));
     }
     all
+}
+
+/// Faults that no image can show, nor what is loaded from one: on a refusal 3 both stamps are equal; an
+/// order that is on and wanted has doors that are not CLOSED and no cause, so that general_EV is asked
+/// for in any case.
+pub fn unseen_in_images() -> Vec<(String, Rules)> {
+    slips(&[
+        ("stamp_moved_on_3", Slip::StampMovedOn3),
+        ("orders_taken_without_general", Slip::OrdersWithoutGeneral),
+    ])
 }
 
 /// Faults that a dump can show, of its writer and of what a run hands to it.
@@ -340,7 +410,185 @@ pub fn sheet_faults() -> Vec<(String, Rules)> {
     ])
 }
 
+/// Faults that an image shows, or what is loaded from one.
+pub fn image_faults() -> Vec<(String, Rules)> {
+    let mut all = unseen_in_rows();
+    all.extend(saving_faults());
+    all.extend(form_faults());
+    all.extend(range_faults());
+    all.extend(rule_faults());
+    all.extend(start_faults());
+    all
+}
+
+/// Of which state an image is, and with which values.
+fn saving_faults() -> Vec<(String, Rules)> {
+    use Slip::*;
+    slips(&[
+        ("fresh_other_sensors_1", FreshOthers1),
+        ("image_before_last_row", ImageBefore),
+        ("stalled_last_row_gives_no_image", StallNoImage),
+        ("image_stamp_of_refused_row", StampOfRefused),
+        ("image_stamp_of_row_0", StampOfStart),
+        ("torn_last_row_gives_no_image", TornNoImage),
+        ("image_without_row_0", ImageWithoutRow0),
+        ("image_ages_uncapped", AgesUncapped),
+        ("image_age_0_when_off", AgeOfOff0),
+        ("image_handle_age_of_general", HandleAgeOfGeneral),
+        ("image_invalid_as_struck", InvalidAsStruck),
+        ("image_struck_as_valid", StruckUnwritten),
+        ("image_struck_as_invalid", StruckAsInvalid),
+        ("image_invalid_held_0", InvalidHeld0),
+        ("image_held_from_raw_majority", HeldUnvoted),
+        ("image_cause_is_1", CauseIsOne),
+    ])
+}
+
+/// Where items stand and how they are numbered.
+fn form_faults() -> Vec<(String, Rules)> {
+    use Slip::*;
+    slips(&[
+        ("items_little_endian", LittleEndian),
+        ("age_before_on", AgeBeforeOn),
+        ("held_before_voter", HeldBeforeVoter),
+        ("voters_before_all_held", VotersFirst),
+        ("open_before_close", OpenCloseItems),
+        ("extend_before_retract", RetractExtendItems),
+        ("general_after_the_four", GeneralLast),
+        ("handle_age_before_orders", HandleAgeFirst),
+        ("gears_before_doors", DoorsGearsItems),
+        ("cause_before_sensors", CauseFirst),
+        ("stamp_last", StampLast),
+        ("left_and_right_items_swapped", LeftRightItems),
+        ("sensors_backwards", SensorsBackwards),
+        ("doors_numbered_by_place", DoorsRenumbered),
+        ("opening_and_closing_swapped", DoorsMovesSwapped),
+        ("gears_ends_swapped", GearsEndsSwapped),
+        ("gears_moves_swapped", GearsMovesSwapped),
+        ("voters_from_0", VotersFrom0),
+        ("voters_backwards", VotersBackwards),
+    ])
+}
+
+/// Refusal 10, and what comes before what.
+fn range_faults() -> Vec<(String, Rules)> {
+    use Slip::*;
+    let mut all = slips(&[
+        ("longer_image_taken", LongerTaken),
+        ("shorter_image_taken", ShorterTaken),
+        ("two_images_taken", LengthInFours),
+        ("empty_image_is_fresh_start", EmptyIsFresh),
+        ("refusal_11_before_10", RuleBeforeRange),
+        ("refusals_10_11_swapped", RefusalsSwapped),
+        ("items_signed", ItemsSigned),
+        ("items_of_16_bits", ItemsLow16),
+        ("first_sensor_any_number", SensorUnranged(0)),
+        ("last_sensor_any_number", SensorUnranged(17)),
+    ]);
+    for (name, clock) in CLOCKS {
+        all.extend(slips(&[(&format!("{name}_any_number")[..], AgeUnranged(clock))]));
+    }
+    let mut number = |name: &str, get: fn(&mut Tops) -> &mut u32| {
+        for off in [-1, 1] {
+            let mut rules = Rules::default();
+            let n = get(&mut rules.top);
+            *n = n.wrapping_add_signed(off);
+            all.push((format!("{name}_to_{n}"), rules));
+        }
+    };
+    number("voter", |t| &mut t.voter);
+    number("held", |t| &mut t.held);
+    number("on", |t| &mut t.on);
+    number("order_age", |t| &mut t.age);
+    number("handle_age", |t| &mut t.handle_age);
+    number("doors", |t| &mut t.doors);
+    number("gears", |t| &mut t.gears);
+    number("cause", |t| &mut t.cause);
+    all
+}
+
+const CLOCKS: [(&str, usize); 6] = [
+    ("general_age", GENERAL),
+    ("close_age", CLOSE),
+    ("open_age", OPEN),
+    ("retract_age", RETRACT),
+    ("extend_age", EXTEND),
+    ("handle_age", HANDLE_CLOCK),
+];
+
+/// Refusal 11.
+fn rule_faults() -> Vec<(String, Rules)> {
+    use Slip::*;
+    let mut all = slips(&[
+        ("moving_gears_any_doors", MovingUnchecked),
+        ("moving_gears_doors_closed", MovingTakes(0)),
+        ("moving_gears_doors_opening", MovingTakes(1)),
+        ("moving_gears_doors_closing", MovingTakes(3)),
+        ("extending_any_doors", MovingForgets(1)),
+        ("retracting_any_doors", MovingForgets(3)),
+        ("doors_open_only_with_moving_gears", OpenOnlyMoving),
+        ("unwanted_order_taken", UnwantedTaken),
+        ("wanted_order_must_be_on", WantedMustBeOn),
+        ("open_wanted_with_doors_open", OpenWantedOpen),
+        ("orders_with_cause_taken", RedOrdersTaken),
+        ("doors_without_general_taken", GeneralOffTaken),
+        ("opening_without_general_taken", GeneralOffWith(1)),
+        ("open_without_general_taken", GeneralOffWith(2)),
+        ("closing_without_general_taken", GeneralOffWith(3)),
+        ("doors_with_cause_need_general", GeneralOffRed),
+        ("general_only_with_doors_not_closed", GeneralOnClosed),
+        ("invalid_without_cause_taken", InvalidTaken),
+        ("first_sensor_invalid_without_cause_taken", InvalidSensor(0)),
+        ("last_sensor_invalid_without_cause_taken", InvalidSensor(17)),
+        ("invalid_needs_cause_13", InvalidOnly13),
+        ("cause_13_needs_invalid", Cause13OnlyInvalid),
+        ("struck_needs_cause", StruckNeedsCause),
+    ]);
+    for (name, order) in &CLOCKS[CLOSE..=EXTEND] {
+        let name = name.trim_end_matches("_age");
+        all.extend(slips(&[
+            (&format!("unwanted_{name}_taken")[..], UnwantedOrder(*order)),
+            (&format!("{name}_with_cause_taken")[..], RedOrder(*order)),
+        ]));
+    }
+    all
+}
+
+/// What is loaded, and what is shown.
+fn start_faults() -> Vec<(String, Rules)> {
+    use Slip::*;
+    let mut all = slips(&[
+        ("loaded_stamp_kept", StampKept),
+        ("loaded_ages_60000", AgesLost),
+        ("loaded_ages_0", AgesFrom0),
+        ("loaded_ages_since_image", AgesSinceImage),
+        ("loaded_cause_lost", CauseLost),
+        ("loaded_struck_lost", StruckLost),
+        ("loaded_struck_next_channel", StruckNext),
+        ("loaded_invalid_lost", InvalidLost),
+        ("loaded_held_lost", HeldLost),
+        ("loaded_orders_lost", OrdersLost),
+        ("loaded_row_0_voted", Row0Used),
+        ("loaded_row_0_is_a_step", Row0Stepped),
+        ("fresh_start_instead_of_image", FreshInstead),
+    ]);
+    for (name, clock) in CLOCKS {
+        all.extend(slips(&[(&format!("loaded_{name}_lost")[..], AgeLost(clock))]));
+    }
+    all.extend(slips(&[
+        ("shown_with_crlf", ShownCrLf),
+        ("shown_without_last_lf", ShownNoLastLf),
+        ("shown_with_thousands", ShownThousands),
+        ("shown_channels_from_0", ShownChannels0),
+        ("shown_next_cause", ShownCauseNext),
+        ("shown_on_and_off_swapped", ShownOnOff),
+        ("shown_stamp_signed", ShownStampSigned),
+    ]));
+    all
+}
+
 pub fn by_name(name: &str) -> Option<Rules> {
     let dumps = wave_faults().into_iter().chain(sheet_faults());
-    faults().into_iter().chain(unseen()).chain(dumps).find(|f| f.0 == name).map(|f| f.1)
+    let images = image_faults().into_iter().chain(unseen_in_images());
+    faults().into_iter().chain(unseen()).chain(dumps).chain(images).find(|f| f.0 == name).map(|f| f.1)
 }

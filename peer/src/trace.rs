@@ -1,6 +1,8 @@
 //! "The trace and its program" of document 01: rows in, rows out, `replay`. What is made of the rows
-//! is a `Sink`, so that K2's `waves` reads a trace by the same rules.
+//! is a `Sink`, so that K2's `waves` reads a trace by the same rules; what row 0 starts is a `Start`, so
+//! that K3's `handover` goes on from an image.
 
+use crate::image::Image;
 use crate::rig::{Doors, Gears, Rig};
 use crate::rules::{Rules, Slip};
 use std::io::{self, BufRead, ErrorKind, Read, Write};
@@ -220,6 +222,31 @@ pub(crate) fn decimal(out: &mut Vec<u8>, mut n: u64) {
     out.extend_from_slice(&text[at..]);
 }
 
+/// What row 0 starts, with its stamp: a controller afresh, or one that an image holds.
+#[derive(Clone, Copy)]
+pub enum Start<'a> {
+    Fresh,
+    From(&'a Image),
+}
+
+impl Start<'_> {
+    /// Row 0 gives the start stamp; its sample is not used.
+    fn at(self, r: &Rules, row: &Row) -> Rig {
+        let mut rig = match self {
+            Start::From(image) if !r.is(Slip::FreshInstead) => image.start(r, row.stamp),
+            _ => Rig::fresh(r, row.stamp),
+        };
+        if r.is(Slip::Row0Used) {
+            rig.vote(r, row.sample);
+        }
+        if let (Start::From(_), Slip::Row0Stepped) = (self, r.slip) {
+            rig.stamp = row.stamp.wrapping_sub(1);
+            rig.step(r, row.stamp, row.sample);
+        }
+        rig
+    }
+}
+
 /// What a program makes of the rows of a trace.
 pub(crate) trait Sink {
     /// A row that was taken, or got 3 or 4 as its code, and the controller as it then stands.
@@ -305,23 +332,31 @@ pub enum Stopped {
     Writing(io::Error),
 }
 
+/// How the reading of a trace went: to its end, or to the refusal that ended it.
+pub type Reading = Result<Option<Ended>, Stopped>;
+
 /// `replay`: the whole program but for its message on standard error.
-pub fn replay(r: &Rules, input: impl Read, out: impl Write) -> Result<Option<Ended>, Stopped> {
+pub fn replay(r: &Rules, input: impl Read, out: impl Write) -> Reading {
+    replay_from(r, Start::Fresh, input, out)
+}
+
+/// What `replay` writes, from a start of any kind.
+pub fn replay_from(r: &Rules, start: Start, input: impl Read, out: impl Write) -> Reading {
     let mut output = Output { out, buf: Vec::with_capacity(1 << 17), shown: None, fields: Vec::new() };
     output.buf.extend_from_slice(OUT_HEADER);
-    run(r, input, &mut output)
+    run(r, start, input, &mut output)
 }
 
 /// A whole trace through a sink. If reading fails, what is ready is written out.
-pub(crate) fn run(r: &Rules, input: impl Read, sink: &mut impl Sink) -> Result<Option<Ended>, Stopped> {
+pub(crate) fn run(r: &Rules, start: Start, input: impl Read, sink: &mut impl Sink) -> Reading {
     let mut lines = Lines::new(input);
-    match rows(r, &mut lines, sink) {
+    match rows(r, start, &mut lines, sink) {
         Err(Stopped::Writing(e)) => Err(Stopped::Writing(e)),
         other => sink.end(r, lines.bare).map_err(Stopped::Writing).and(other),
     }
 }
 
-fn rows<R: Read>(r: &Rules, lines: &mut Lines<R>, sink: &mut impl Sink) -> Result<Option<Ended>, Stopped> {
+fn rows<R: Read>(r: &Rules, start: Start, lines: &mut Lines<R>, sink: &mut impl Sink) -> Reading {
     // The header is line 1.
     let (refusal, bare_lf) = match lines.next(r).map_err(Stopped::Reading)? {
         Line::Row(text) if text == HEADER || r.is(Slip::HeaderUnchecked) => (0, false),
@@ -352,11 +387,7 @@ fn rows<R: Read>(r: &Rules, lines: &mut Lines<R>, sink: &mut impl Sink) -> Resul
                 Some(row) if u64::from(row.label) != due && !r.is(Slip::LabelUnchecked) => 7,
                 Some(row) => {
                     let code = if due == 0 {
-                        // Row 0 gives the start stamp; its sample is not used.
-                        rig = Rig::fresh(r, row.stamp);
-                        if r.is(Slip::Row0Used) {
-                            rig.vote(r, row.sample);
-                        }
+                        rig = start.at(r, &row);
                         0
                     } else {
                         rig.step(r, row.stamp, row.sample)

@@ -5,14 +5,14 @@ use crate::gen::{cut, field, lesson, same, trace, Script, Tape, Travel};
 use crate::rig::*;
 use crate::trace::HEADER;
 
-const NEVER: u64 = u64::MAX;
-const AT_REST: u32 = HANDLE | GEAR_EXTENDED | DOOR_CLOSED;
+pub(crate) const NEVER: u64 = u64::MAX;
+pub(crate) const AT_REST: u32 = HANDLE | GEAR_EXTENDED | DOOR_CLOSED;
 /// Gears up with the handle down: from a fresh start nothing moves, whatever doors and gears say.
-const UP_AT_REST: u32 = HANDLE | GEAR_RETRACTED | DOOR_CLOSED;
+pub(crate) const UP_AT_REST: u32 = HANDLE | GEAR_RETRACTED | DOOR_CLOSED;
 const OPEN_ALL: Travel = Travel { leave: 100, arrive: 300 };
 
 /// A script with the handle up and the named order just started.
-fn started(order: usize) -> Script {
+pub(crate) fn started(order: usize) -> Script {
     let mut s = Script::new(1_000);
     s.step(100);
     s.handle(false, 100);
@@ -43,7 +43,7 @@ fn cause(order: usize, leave: u64, arrive: u64, mark: u64) -> Vec<u8> {
     s.tape.text
 }
 
-fn handle_up() -> Script {
+pub(crate) fn handle_up() -> Script {
     let mut s = Script::new(1_000);
     s.step(100);
     s.handle(false, 50);
@@ -132,7 +132,7 @@ fn samples(seen: &[u32]) -> Vec<u8> {
 }
 
 /// One unit of the three sensors of a kind.
-fn one(sensors: u32, unit: u32) -> u32 {
+pub(crate) fn one(sensors: u32, unit: u32) -> u32 {
     1 << (sensors.trailing_zeros() + unit)
 }
 

@@ -5,6 +5,7 @@ use peer::rules::{faults, unseen, Rules};
 use peer::trace::{replay, replay_bytes, HEADER, OUT_HEADER};
 use peer::vectors::{session_s, vectors};
 use std::io::Read;
+use std::path::PathBuf;
 
 const AT_REST: u32 = HANDLE | GEAR_EXTENDED | DOOR_CLOSED;
 
@@ -46,7 +47,9 @@ fn stored_vectors() {
         return;
     };
     let mut count = 0;
-    for path in entries.map(|e| e.unwrap().path()).filter(|p| p.extension().is_some_and(|e| e == "in")) {
+    // A trace that goes on from an image has no output of its own.
+    let alone = |p: &PathBuf| p.extension().is_some_and(|e| e == "in") && !p.with_extension("start").exists();
+    for path in entries.map(|e| e.unwrap().path()).filter(alone) {
         let (input, wanted) =
             (std::fs::read(&path).unwrap(), std::fs::read(path.with_extension("out")).unwrap());
         assert_eq!(out(&input).as_bytes(), wanted, "{}", path.display());

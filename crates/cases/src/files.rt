@@ -60,7 +60,7 @@ pub fn at_end(fd: i32) -> bool {
 }
 
 // Opens the file whose name stands in the first n bytes of `path`, with an ending behind it.
-fn open_with(path: &mut [u8], n: usize, ending: &[u8]) -> i32 {
+pub fn open_with(path: &mut [u8], n: usize, ending: &[u8]) -> i32 {
     let mut at = n;
     let mut i = 0;
     while i < ending.len() {

@@ -1,12 +1,15 @@
 // Runs stored cases and compares what is written with what is stored, byte for byte. Each argument names a case by what is stored:
 // NAME is the output of a trace (the module `outputs`), NAME.vcd the dump of a trace (`dumps`), NAME.csv the values of a dump
-// (`tables`). Each is run twice, in large parts and in parts of seven bytes.
+// (`tables`), NAME.img the image that a trace leaves (`saves`), NAME.resumed the output of a trace from an image (`outputs`), NAME.txt
+// the words of an image (`images`). Each is run twice, in large parts and in parts of seven bytes.
 ghost use mathlib.Core.Path.{_≡_};
 ghost use lib.ListN.{length};
 
 mod dumps;
 mod files;
+mod images;
 mod outputs;
+mod saves;
 mod tables;
 
 use libc::STDOUT_FILENO;
@@ -32,6 +35,20 @@ fn without(path: &[u8], n: usize, ending: &[u8]) -> Stem {
     Stem::Nothing
 }
 
+// The same for the cases of images, and else the output of a trace.
+fn image_case(path: &mut [u8], n: usize, input: &mut [u8], out: &mut [u8]) -> bool {
+    if let Stem::Name(name) = without(path, n, b".img") {
+        return saves::case(path, name, input, out);
+    }
+    if let Stem::Name(name) = without(path, n, b".resumed") {
+        return outputs::resumed_case(path, name, input, out);
+    }
+    if let Stem::Name(name) = without(path, n, b".txt") {
+        return images::case(path, name, out);
+    }
+    outputs::case(path, n, input, out)
+}
+
 // Runs the case that the first n bytes of `path` name, and answers whether it was as stored.
 fn case(path: &mut [u8], n: usize, input: &mut [u8], out: &mut [u8]) -> bool {
     if let Stem::Name(name) = without(path, n, b".vcd") {
@@ -40,7 +57,7 @@ fn case(path: &mut [u8], n: usize, input: &mut [u8], out: &mut [u8]) -> bool {
     if let Stem::Name(name) = without(path, n, b".csv") {
         return tables::case(path, name, input, out);
     }
-    outputs::case(path, n, input, out)
+    image_case(path, n, input, out)
 }
 
 // Says of a case whether it was as stored.

@@ -14,6 +14,10 @@ use Rattle.controller.proofs.State.values.Kinds as state-values-kinds
 use Rattle.controller.proofs.State.values.Reads as state-values-reads
 use Rattle.controller.proofs.State.cause.Kinds as state-cause-kinds
 use Rattle.controller.proofs.State.cause.Reads as state-cause-reads
+use Rattle.controller.proofs.State.started_at.Kinds as state-started-at-kinds
+use Rattle.controller.proofs.State.started_at.Reads as state-started-at-reads
+use Rattle.controller.proofs.State.invalid.Kinds as state-invalid-kinds
+use Rattle.controller.proofs.State.invalid.Reads as state-invalid-reads
 
 pub state-fresh-once : OneAnswer 0 state-fresh-kinds.ps state-fresh-kinds.r state-fresh-reads.Post
 state-fresh-once κs a x y s t p q = p ∙ sym q
@@ -32,3 +36,9 @@ state-values-once κs a x y s t p q = p ∙ sym q
 
 pub state-cause-once : OneAnswer 0 state-cause-kinds.ps state-cause-kinds.r state-cause-reads.Post
 state-cause-once κs a x y s t p q = p ∙ sym q
+
+pub state-started-at-once : OneAnswer 0 state-started-at-kinds.ps state-started-at-kinds.r state-started-at-reads.Post
+state-started-at-once κs a x y s t p q = p ∙ sym q
+
+pub state-invalid-once : OneAnswer 0 state-invalid-kinds.ps state-invalid-kinds.r state-invalid-reads.Post
+state-invalid-once κs a x y s t p q = p ∙ sym q

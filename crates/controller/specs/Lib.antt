@@ -3,6 +3,7 @@ pub mod Start
 pub mod Stages
 pub mod Steps
 pub mod Lamps
+pub mod Shows
 pub mod BeforeFirst
 pub mod BeforeK1
 pub mod LampCases

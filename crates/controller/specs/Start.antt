@@ -51,3 +51,7 @@ freshVoters =
 -- A fresh start takes a stamp.
 unfoldable pub freshOf : ℕ → State
 freshOf stamp = record { stamp = stamp; voters = freshVoters; core = freshCore }
+
+-- Request K3: a lesson that goes on takes a new start stamp, and all else is as it was.
+unfoldable pub startedAt : ℕ → State → State
+startedAt stamp s = record { stamp = stamp; voters = s .voters; core = s .core }

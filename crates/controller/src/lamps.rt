@@ -1,7 +1,8 @@
-// What a state shows: the lights, the fields of an output row, the voted values and the cause (specs/Lamps.antt; document 01,
-// "Lights", as request K1 has it).
+// What a state shows: the lights, the fields of an output row, the voted values, whether a sensor is invalid, and the cause
+// (specs/Lamps.antt; document 01, "Lights", as request K1 has it).
 ghost use mathlib.Core.Path.{_≡_};
 ghost use Prim.Native.Nat.{_<_};
+ghost use Rattle.controller.specs.Votes.{someInvalid};
 ghost use Rattle.controller.specs.Lamps.{greenOf, neitherAt, orangeOf, lightsOf, shownOf, valuesOf};
 use crate::Lights;
 use crate::Shown;
@@ -79,6 +80,14 @@ impl State {
             i += 1;
         }
         values
+    }
+
+    // Whether some sensor is invalid.
+    pub fn invalid(self) -> bool
+        ensures { λ r. ⌜ r ≡ someInvalid (self .voters) ⌝ }
+    {
+        let voters = self.voters;
+        votes::some_invalid(voters)
     }
 
     // The cause of the anomaly, 0 for none.

@@ -2,7 +2,7 @@
 // The rules are specs/: Start.antt (a fresh start), Votes.antt (the sample and what it says), Stages.antt (one accepted step, in
 // its order), Steps.antt (refusals 1 to 4 and the step), Lamps.antt (the lights and the fields of an output row).
 ghost use mathlib.Core.Path.{_≡_};
-ghost use Rattle.controller.specs.Start.{freshOrders, freshVoters, freshOf};
+ghost use Rattle.controller.specs.Start.{freshOrders, freshVoters, freshOf, startedAt};
 ghost use Rattle.controller.specs.Steps.{someOverOne, stepOf};
 
 mod lamps;
@@ -143,6 +143,19 @@ impl State {
         State {
             stamp,
             voters: fresh_voters(),
+            core,
+        }
+    }
+
+    // The same controller at a new start stamp.
+    pub fn started_at(self, stamp: u32) -> Self
+        ensures { λ r. ⌜ r ≡ startedAt stamp self ⌝ }
+    {
+        let voters = self.voters;
+        let core = self.core;
+        State {
+            stamp,
+            voters,
             core,
         }
     }

@@ -64,7 +64,7 @@ fn three_from(voters: [Voter; 18], i: usize) -> Three
 }
 
 // Whether some sensor is invalid.
-fn some_invalid(voters: [Voter; 18]) -> bool
+pub(crate) fn some_invalid(voters: [Voter; 18]) -> bool
     ensures { λ r. ⌜ r ≡ someInvalid voters ⌝ }
 {
     let mut seen = false;

@@ -17,11 +17,10 @@ use Rattle.trace.specs.declared.Due.{Due}
 use Rattle.trace.specs.declared.Due.the-variants.{Label, Nothing as NoLabel}
 use Rattle.trace.specs.Numbers.{greatest}
 use Rattle.trace.specs.Rows.{readRow}
-use Rattle.trace.specs.Header.{headerText, sameText}
 use Rattle.trace.proofs.Laws.{what-is-taken-is-of-the-form}
 use Rattle.controller.specs.declared.State.{State}
 use Rattle.controller.specs.declared.Answer.{Answer}
-use Rattle.controller.specs.Start.{freshOf}
+use Rattle.controller.specs.Start.{startedAt}
 use Rattle.controller.specs.Stages.{elapsedOf, accepted}
 use Rattle.controller.specs.Steps.{limit, stepOf}
 use Rattle.controller.specs.Lamps.{valuesOf}
@@ -29,7 +28,8 @@ use Rattle.reading.specs.declared.Phase.{Phase}
 use Rattle.reading.specs.declared.Phase.the-variants.{Header, Rows, Ended}
 use Rattle.reading.specs.declared.Reading.{Reading}
 use Rattle.reading.specs.declared.Heard.{Heard}
-use Rattle.reading.specs.Rows.{nextDue, lineOf, untold, endsAt, headerRow, answerTo, shownRow, noSample, traceRow, rowOf}
+use Rattle.reading.specs.Rows.{nextDue, lineOf, untold, endsAt, answerTo, shownRow, noSample, traceRow, rowOf}
+use Rattle.reading.proofs.FirstRow.{by-first-row}
 use Rattle.dump.specs.declared.Dump.{Dump}
 use Rattle.dump.specs.Wires.{wires}
 use Rattle.dump.specs.Dumps.{Moment, headText, momentText}
@@ -206,13 +206,13 @@ pub record Started (dump : Dump) (before : Reading) (heard : Heard) : Type 0 whe
   pub one : adds (dump .time) before heard ≡ record { time = 0; values = values } ∷ []
   pub running : Running (heard .reading .phase) 0
 
-fresh-started : (dump : Dump) (before : Reading) (stamp : ℕ) (sample : List ℕ)
+row-0-started : (dump : Dump) (before : Reading) (stamp : ℕ) (sample : List ℕ)
     → Started dump before (shownRow (Label 0) 0 (answerTo (before .state) 0 stamp sample))
 unfolding answerTo shownRow given adds
-fresh-started dump before stamp sample =
+row-0-started dump before stamp sample =
     record {
-      values = wiresOf (freshOf stamp);
-      wide = a-value-each (freshOf stamp);
+      values = wiresOf (startedAt stamp (before .state));
+      wide = a-value-each (startedAt stamp (before .state));
       told = refl;
       one = refl;
       running = (lit≤ tt, lit≤ tt);
@@ -226,7 +226,7 @@ pub data FirstTurn (dump : Dump) (before : Reading) (heard : Heard) : Type 0 whe
 read-first : (dump : Dump) (before : Reading) (heard : Heard) → Read (Label 0) (before .state) heard → FirstTurn dump before heard
 read-first dump before heard (ends line refusal e) = ends line refusal e
 read-first dump before heard (shows l stamp sample due fits e) =
-    let same : l ≡ 0 = cc in starts (rw (e, same) (fresh-started dump before stamp sample))
+    let same : l ≡ 0 = cc in starts (rw (e, same) (row-0-started dump before stamp sample))
 
 pub first-turn : (dump : Dump) (state : State) (row : List ℕ)
     → FirstTurn dump (record { phase = Rows (Label 0); state = state })
@@ -240,7 +240,5 @@ pub data HeaderTurn (state : State) (heard : Heard) : Type 0 where
   opens : heard ≡ untold (record { phase = Rows (Label 0); state = state }) → HeaderTurn state heard
 
 pub header-turn : (state : State) (row : List ℕ) → HeaderTurn state (rowOf (record { phase = Header; state = state }) row)
-unfolding rowOf headerRow
-header-turn state row =
-    either (ltb 512 (length row)) (λ over. ends 1 6 (rw over))
-    (λ short. either (sameText row headerText) (λ same. opens (rw (short, same))) (λ other. ends 1 5 (rw (short, other))))
+unfolding rowOf
+header-turn state row = by-first-row (HeaderTurn state) state row (λ refusal. ends 1 refusal refl) (opens refl)

@@ -18,7 +18,6 @@ use Rattle.sequence.specs.Moves.{place, aimOf, atAim, nextGears, doorsToGears, 
 use Rattle.orders.specs.Timing.{isClosing}
 use Rattle.controller.specs.declared.State.{State}
 use Rattle.controller.specs.Votes.{handle, sensor, allVoted, aimed, seenOf, sightOf}
-use Rattle.controller.specs.Start.{freshCore, freshOf}
 use Rattle.controller.specs.Stages.{
   anomaly,
   coreAges,
@@ -33,7 +32,7 @@ use Rattle.controller.specs.Stages.{
   ordersStage,
   accepted,
 }
-use Rattle.laws.specs.Reached.Reached.{fresh, step}
+use Rattle.controller.specs.Shows.{doorsOf, gearsOf, areMoving}
 use Rattle.laws.specs.Laws.{Always, statusOf, handleOf, FollowsTheGroundModel}
 use Rattle.laws.specs.GroundModel.{HandleStatus, CloseDoor, OutgoingSequence, Move, PrintedMove, OneMoveOrNone, OfTheGroundModel}
 use Rattle.laws.specs.GroundModel.HandleStatus.{UP, DOWN}
@@ -61,6 +60,7 @@ use Rattle.laws.specs.GroundModel.OneMoveOrNone.{one-move, no-move}
 use Rattle.laws.specs.GroundModel.OfTheGroundModel.{initially, and-then}
 use Rattle.laws.proofs.Kept.{by-cases}
 use Rattle.laws.proofs.Lifted.{step-keeps}
+use Rattle.laws.proofs.Safety.{moving-gears-have-doors-open}
 
 -- ---- A move that waits for a sensor is made or not.
 
@@ -170,17 +170,52 @@ step-follows s stamp bytes = step-keeps (λ (t : State). OneMoveOrNone (handleOf
 pub follows-the-ground-model : Always FollowsTheGroundModel
 follows-the-ground-model s reached = step-follows s
 
--- ---- Every place is one of the ground model.
+-- ---- Every place is one of the ground model: a place of a taken image too, where moving gears have doors OPEN.
 
-and-perhaps : {handle : HandleStatus} {p q : Place} → OfTheGroundModel p → OneMoveOrNone handle p q → OfTheGroundModel q
-and-perhaps {handle} before (one-move move) = and-then before handle move
-and-perhaps before no-move = before
+opening-extended : OfTheGroundModel (place Opening Extended)
+unfolding atAim
+opening-extended = and-then initially UP (printed (retracts (retraction-closed (not-retracted Extended tt))))
+
+open-extended : OfTheGroundModel (place Open Extended)
+unfolding atAim
+open-extended = and-then opening-extended UP (printed (retracts (retraction-opening (not-retracted Extended tt))))
+
+open-retracting : OfTheGroundModel (place Open Retracting)
+open-retracting = and-then open-extended UP (printed (retracts retraction-extended))
+
+open-retracted : OfTheGroundModel (place Open Retracted)
+open-retracted = and-then open-retracting UP (printed (retracts retraction-retracting))
+
+closing-retracted : OfTheGroundModel (place Closing Retracted)
+closing-retracted = and-then open-retracted UP (printed (retracts (retraction-else open-to-closing)))
+
+closed-retracted : OfTheGroundModel (place Closed Retracted)
+closed-retracted = and-then closing-retracted UP (printed (retracts (retraction-else closing-to-closed)))
+
+opening-retracted : OfTheGroundModel (place Opening Retracted)
+unfolding atAim
+opening-retracted = and-then closed-retracted DOWN (printed (outgoes (outgoing-closed (not-extended Retracted tt))))
+
+open-extending : OfTheGroundModel (place Open Extending)
+open-extending = and-then open-retracted DOWN (printed (outgoes outgoing-retracted))
+
+closing-extended : OfTheGroundModel (place Closing Extended)
+closing-extended = and-then open-extended DOWN (printed (outgoes (outgoing-else open-to-closing)))
+
+of-the-model : (gears : Gears) (doors : Doors) → (T (areMoving gears) → doors ≡ Open) → OfTheGroundModel (place doors gears)
+of-the-model Retracted Closed h = closed-retracted
+of-the-model Retracted Opening h = opening-retracted
+of-the-model Retracted Open h = open-retracted
+of-the-model Retracted Closing h = closing-retracted
+of-the-model Extending doors h = rw (h tt) open-extending
+of-the-model Extended Closed h = initially
+of-the-model Extended Opening h = opening-extended
+of-the-model Extended Open h = open-extended
+of-the-model Extended Closing h = closing-extended
+of-the-model Retracting doors h = rw (h tt) open-retracting
 
 pub every-place-is-of-the-ground-model : Always (λ (s : State). OfTheGroundModel (s .core .place))
-unfolding freshOf freshCore
-every-place-is-of-the-ground-model s (fresh stamp) = initially
-every-place-is-of-the-ground-model s (step {s = before} reached stamp bytes) =
-    and-perhaps (every-place-is-of-the-ground-model before reached) (step-follows before stamp bytes)
+every-place-is-of-the-ground-model s reached = of-the-model (gearsOf s) (doorsOf s) (moving-gears-have-doors-open s reached)
 
 -- ---- As printed, without the added case, doors CLOSING leave only where gears are EXTENDED: else the rig hangs there.
 

@@ -1,12 +1,15 @@
--- One accepted step of the core keeps what holds of every reached state. Only the doors under moving gears need the state
--- before: the rest is given by the rule for orders and by ages that stop at 60,000.
+-- The last stages of an accepted step leave an allowed controller. Only the doors under moving gears need the state before: the rest
+-- is given by the rule for orders and by ages that stop at 60,000.
 -- Assumes nothing.
 use Prim.Native.Nat.{ℕ, _≤_, zero-le}
 use native.Mathlib.Omega.{arith}
 use mathlib.Core.Bool.{Bool, true, false, cond, not, _&&_}
+use mathlib.Core.List.{List}
 use mathlib.Core.Path.{_≡_, refl, subst}
-use lib.Dec.{T, eqb, lit≤}
+use lib.Dec.{T, eqb}
+use lib.ListN.{length}
 use mir.Facts.{yes-and}
+use Rattle.voter.specs.declared.Voter.{Voter}
 use Rattle.sequence.specs.declared.Doors.{Doors}
 use Rattle.sequence.specs.declared.Doors.the-variants.{Closed, Opening, Open, Closing}
 use Rattle.sequence.specs.declared.Gears.{Gears}
@@ -21,27 +24,27 @@ use Rattle.orders.specs.declared.Orders.{Orders}
 use Rattle.orders.specs.declared.Wanted.{Wanted}
 use Rattle.orders.specs.Timing.{order, grownAge, grown, allGrown, switched, areClosed, wantedOf, directed, offTogether, generalOf, ordersOf}
 use Rattle.orders.proofs.Laws.{on-is-wanted, needed-keeps-general}
-use Rattle.monitors.specs.declared.Sight.{Sight}
-use Rattle.controller.specs.declared.Core.{Core}
-use Rattle.controller.specs.Votes.{seenOf}
-use Rattle.controller.specs.Start.{offLong, freshOrders, freshCore}
-use Rattle.controller.specs.Stages.{anomaly, coreAges, coreHandle, coreMonitors, coreSequence, coreOrders, coreStep}
-use Rattle.laws.specs.Sound.{areMoving, areOpen, SoundOrder, SoundCore}
-use Rattle.laws.proofs.Wanted.{are-open, close-says, open-says, retract-says, extend-says}
+use Rattle.controller.specs.declared.State.{State}
+use Rattle.controller.specs.Stages.{anomaly, coreOrders, ordersStage}
+use Rattle.controller.specs.Shows.{areOpen, areMoving}
+use Rattle.image.specs.Items.{oldest}
+use Rattle.image.specs.Conditions.{InvalidSensorHasCause, CausesTo13, Allowed}
+use Rattle.image.proofs.Keeping.{are-open, are-out, no-red}
+use Rattle.laws.proofs.Wanted.{close-says, open-says, retract-says, extend-says}
 
 -- ---- Ages stop at 60,000.
 
-grown-aged : (elapsed age : ℕ) → grownAge elapsed age ≤ 60000
+grown-aged : (elapsed age : ℕ) → grownAge elapsed age ≤ oldest
 unfolding grownAge
 grown-aged elapsed age = omega arith
 
-since-aged : (turned : Bool) (elapsed age : ℕ) → cond turned 0 (grownAge elapsed age) ≤ 60000
+pub since-aged : (turned : Bool) (elapsed age : ℕ) → cond turned 0 (grownAge elapsed age) ≤ oldest
 since-aged true elapsed age = zero-le
 since-aged false elapsed age = grown-aged elapsed age
 
 -- ---- A switched order is no older than before.
 
-switched-aged : (told on : Bool) (age : ℕ) → age ≤ 60000 → switched told (order on age) .age ≤ 60000
+switched-aged : (told on : Bool) (age : ℕ) → age ≤ oldest → switched told (order on age) .age ≤ oldest
 unfolding switched
 switched-aged true true age h = h
 switched-aged true false age h = zero-le
@@ -50,11 +53,20 @@ switched-aged false false age h = h
 
 -- ---- General_EV, and one of the four.
 
-general-aged : (elapsed : ℕ) (needed stops : Bool) (o : Order) → generalOf needed stops (grown elapsed o) .age ≤ 60000
+general-aged : (elapsed : ℕ) (needed stops : Bool) (o : Order) → generalOf needed stops (grown elapsed o) .age ≤ oldest
 unfolding generalOf grown
 general-aged elapsed needed stops o = switched-aged _ (o .on) (grownAge elapsed (o .age)) (grown-aged elapsed (o .age))
 
-sound-order : (elapsed : ℕ) (wanted needed stops : Bool) (general opposite o : Order) → (T wanted → T needed) → SoundOrder wanted (generalOf needed stops general) (directed wanted general opposite (grown elapsed o))
+-- One of the four, where this says whether it is wanted: if it is on it is wanted and has general_EV on; its age.
+record SoundOrder (wanted : Bool) (general o : Order) : Type 0 where
+  isWanted : T (o .on) → T wanted
+  hasGeneral : T (o .on) → T (general .on)
+  aged : o .age ≤ oldest
+
+sound-order :
+    (elapsed : ℕ) (wanted needed stops : Bool) (general opposite o : Order) →
+    (T wanted → T needed) →
+    SoundOrder wanted (generalOf needed stops general) (directed wanted general opposite (grown elapsed o))
 unfolding grown directed
 sound-order elapsed wanted needed stops general opposite o implies =
     record {
@@ -66,7 +78,7 @@ sound-order elapsed wanted needed stops general opposite o implies =
 -- ---- What is wanted needs general_EV: doors are not CLOSED, and there is no anomaly.
 
 -- Moving gears have doors OPEN.
-abbrev MovingHasOpen : Place → Type 0
+abbrev pub MovingHasOpen : Place → Type 0
 MovingHasOpen p = T (areMoving (p .gears)) → T (areOpen (p .doors))
 
 abbrev needed : Place → Bool → Bool
@@ -77,6 +89,19 @@ needed-at p red doors e out calm = rw e (yes-and (not (areClosed doors)) (not re
 
 moving-needs : (p : Place) (red : Bool) (gears : Gears) → MovingHasOpen p → p .gears ≡ gears → T (areMoving gears) → T (not red) → T (needed p red)
 moving-needs p red gears m e moving calm = needed-at p red Open (are-open (p .doors) (m (rw e moving))) tt calm
+
+module _ (p : Place) (red : Bool) where
+  close-needs : T (wantedOf p red .closes) → T (needed p red)
+  close-needs w = let says = close-says p red w in needed-at p red Closing (says .0) tt (says .1)
+
+  open-needs : T (wantedOf p red .opens) → T (needed p red)
+  open-needs w = let says = open-says p red w in needed-at p red Opening (says .0) tt (says .1)
+
+  retract-needs : MovingHasOpen p → T (wantedOf p red .retracts) → T (needed p red)
+  retract-needs m w = let says = retract-says p red w in moving-needs p red Retracting m (says .0) tt (says .1)
+
+  extend-needs : MovingHasOpen p → T (wantedOf p red .extends) → T (needed p red)
+  extend-needs m w = let says = extend-says p red w in moving-needs p red Extending m (says .0) tt (says .1)
 
 -- ---- The sequence keeps the doors OPEN under moving gears.
 
@@ -117,52 +142,50 @@ move-has-open aim p seen m =
     (λ there h. absurd (resting-at-aim aim (p .gears) there (subst (λ (gears : Gears). T (areMoving gears)) (home-keeps-gears (p .doors) (p .gears) seen) h)))
     (λ away. out-has-open (p .doors) aim (p .gears) seen m)
 
-sequence-has-open : (red : Bool) (aim : Aim) (p : Place) (seen : Seen) → MovingHasOpen p → MovingHasOpen (cond red p (moveOf aim p seen))
+pub sequence-has-open : (red : Bool) (aim : Aim) (p : Place) (seen : Seen) → MovingHasOpen p → MovingHasOpen (cond red p (moveOf aim p seen))
 sequence-has-open true aim p seen m = m
 sequence-has-open false aim p seen m = move-has-open aim p seen m
 
--- ---- One accepted step.
+-- ---- The orders' stage
 
-orders-sound : (elapsed since cause : ℕ) (p : Place) (os : Orders) → MovingHasOpen p → since ≤ 60000 → SoundCore (coreOrders (record { orders = allGrown elapsed os; since = since; place = p; cause = cause }))
-unfolding coreOrders ordersOf allGrown anomaly
-orders-sound elapsed since cause p os m aged =
-    let red : Bool = not (eqb cause 0) in
-    let before : Orders = allGrown elapsed os in
-    let wanted : Wanted = wantedOf p red in
-    let stops : Bool = offTogether before in
-    record {
-      movingHasOpen = m;
-      closes = sound-order elapsed (wanted .closes) (needed p red) stops (before .general) (before .opens) (os .closes) (λ w. needed-at p red Closing (close-says p red w .0) tt (close-says p red w .1));
-      opens = sound-order elapsed (wanted .opens) (needed p red) stops (before .general) (before .closes) (os .opens) (λ w. needed-at p red Opening (open-says p red w .0) tt (open-says p red w .1));
-      retracts = sound-order elapsed (wanted .retracts) (needed p red) stops (before .general) (before .extends) (os .retracts) (λ w. moving-needs p red Retracting m (retract-says p red w .0) tt (retract-says p red w .1));
-      extends = sound-order elapsed (wanted .extends) (needed p red) stops (before .general) (before .retracts) (os .extends) (λ w. moving-needs p red Extending m (extend-says p red w .0) tt (extend-says p red w .1));
-      openHasGeneral = needed-keeps-general (needed p red) stops (before .general);
-      generalAged = general-aged elapsed (needed p red) stops (os .general);
-      handleAged = aged;
-    }
+-- The controller that it looks at: ages have grown.
+module _ (elapsed stamp since cause : ℕ) (voters : List Voter) (p : Place) (os : Orders) where
+  abbrev grownTo : State
+  grownTo =
+      record { stamp = stamp; voters = voters; core = record { orders = allGrown elapsed os; since = since; place = p; cause = cause } }
 
-pub sound-kept : (elapsed : ℕ) (turned : Bool) (aim : Aim) (see : Sight) (c : Core) → SoundCore c → SoundCore (coreStep elapsed turned aim see c)
-unfolding coreStep coreSequence coreMonitors coreHandle coreAges
-sound-kept elapsed turned aim see c sound =
-    let watched : Core = coreMonitors see (coreHandle turned (coreAges elapsed c)) in
-    orders-sound elapsed (watched .since) (watched .cause) _ (c .orders) (sequence-has-open (anomaly watched) aim (c .place) (seenOf see) (sound .movingHasOpen)) (since-aged turned elapsed (c .since))
-
--- ---- A fresh start.
-
-off-long-sound : (wanted : Bool) (general : Order) → SoundOrder wanted general offLong
-unfolding offLong
-off-long-sound wanted general = record { isWanted = λ h. absurd h; hasGeneral = λ h. absurd h; aged = lit≤ tt }
-
-pub fresh-sound : SoundCore freshCore
-unfolding freshCore freshOrders offLong
-fresh-sound =
-    record {
-      movingHasOpen = λ h. absurd h;
-      closes = off-long-sound _ _;
-      opens = off-long-sound _ _;
-      retracts = off-long-sound _ _;
-      extends = off-long-sound _ _;
-      openHasGeneral = λ h. absurd h;
-      generalAged = lit≤ tt;
-      handleAged = lit≤ tt;
-    }
+  pub orders-allow :
+      length voters ≡ 18 →
+      MovingHasOpen p →
+      since ≤ oldest →
+      CausesTo13 grownTo →
+      InvalidSensorHasCause grownTo →
+      Allowed (ordersStage grownTo)
+  unfolding ordersStage coreOrders ordersOf allGrown anomaly
+  orders-allow eighteen m aged caused invalid =
+      let red : Bool = not (eqb cause 0) in
+      let before : Orders = allGrown elapsed os in
+      let general : Order = before .general in
+      let wanted : Wanted = wantedOf p red in
+      let need : Bool = needed p red in
+      let stops : Bool = offTogether before in
+      let closes = sound-order elapsed (wanted .closes) need stops general (before .opens) (os .closes) (close-needs p red) in
+      let opens = sound-order elapsed (wanted .opens) need stops general (before .closes) (os .opens) (open-needs p red) in
+      let retracts = sound-order elapsed (wanted .retracts) need stops general (before .extends) (os .retracts) (retract-needs p red m) in
+      let extends = sound-order elapsed (wanted .extends) need stops general (before .retracts) (os .extends) (extend-needs p red m) in
+      record {
+        sensors = eighteen;
+        ages = (general-aged elapsed need stops (os .general), closes .aged, opens .aged, retracts .aged, extends .aged, aged);
+        causes = caused;
+        rules =
+            record {
+              movingHaveOpen = λ h. are-open (p .doors) (m h);
+              onIsWanted = (closes .isWanted, opens .isWanted, retracts .isWanted, extends .isWanted);
+              onHasGeneral = (closes .hasGeneral, opens .hasGeneral, retracts .hasGeneral, extends .hasGeneral);
+              openHaveGeneral =
+                  λ notClosed none.
+                  needed-keeps-general need stops general
+                  (yes-and (not (areClosed (p .doors))) (not red) (are-out (p .doors) notClosed) (no-red grownTo none));
+              invalidHasCause = invalid;
+            };
+      }

@@ -1,8 +1,9 @@
 pub mod Wanted
 pub mod Kept
+pub mod Watched
 pub mod Lifted
 pub mod Safety
-pub mod Watched
+pub mod Images
 pub mod Ground
 pub mod Computing
 pub mod Worked

@@ -4,14 +4,23 @@
 use Prim.Native.Nat.{ℕ}
 use mathlib.Core.Bool.{Bool, true, false, cond}
 use mathlib.Core.List.{List}
-use mathlib.Core.Path.{_≡_, refl, subst⁻¹}
-use lib.Dec.{eqb}
+use mathlib.Core.Path.{_≡_, refl, sym, _∙_, ap, subst}
+use native.Mathlib.Nat.{le-refl}
+use lib.Dec.{T, eqb, lit≤}
+use lib.ListN.{length}
+use Rattle.common.proofs.Loops.{upTo-length, upTo-all}
 use Rattle.voter.specs.declared.Voter.{Voter}
 use Rattle.controller.specs.declared.Core.{Core}
 use Rattle.controller.specs.declared.State.{State}
-use Rattle.controller.specs.Votes.{allVoted, sightOf, aimed}
-use Rattle.controller.specs.Start.{freshOf}
+use Rattle.controller.specs.Votes.{votesAt, allVoted, sightOf, seenOf, aimed}
+use Rattle.controller.specs.Start.{offLong, freshOrders, freshCore, freshVoters, freshOf}
 use Rattle.controller.specs.Stages.{
+  anomaly,
+  coreAges,
+  coreHandle,
+  coreMonitors,
+  coreSequence,
+  coreOrders,
   coreStep,
   elapsedOf,
   agesStage,
@@ -23,10 +32,12 @@ use Rattle.controller.specs.Stages.{
   accepted,
 }
 use Rattle.controller.specs.Steps.{refusalOf, stepOf}
-use Rattle.laws.specs.Reached.{Reached}
-use Rattle.laws.specs.Reached.Reached.{fresh, step}
-use Rattle.laws.specs.Sound.{SoundCore}
-use Rattle.laws.proofs.Kept.{sound-kept, fresh-sound}
+use Rattle.image.specs.Conditions.{Allowed}
+use Rattle.image.proofs.RoundTrips.{taken-is-allowed}
+use Rattle.laws.specs.Reached.Reached.{fresh, loaded, step}
+use Rattle.laws.specs.Laws.{Always}
+use Rattle.laws.proofs.Kept.{since-aged, sequence-has-open, orders-allow}
+use Rattle.laws.proofs.Watched.{accepted-to-13, accepted-has-cause, fresh-all-valid}
 
 -- The step of the core that an accepted sample makes.
 abbrev pub coreOn : State → ℕ → List ℕ → Core
@@ -47,12 +58,51 @@ step-keeps P s stamp bytes taken before = either (eqb (refusalOf s stamp bytes) 
     either true = taken
     either false = before
 
-accepted-sound : (s : State) (stamp : ℕ) (bytes : List ℕ) → SoundCore (s .core) → SoundCore (accepted s stamp bytes .core)
-accepted-sound s stamp bytes sound = subst⁻¹ SoundCore (core-of-accepted s stamp bytes) (sound-kept _ _ _ _ (s .core) sound)
+-- ---- What is allowed stays so
 
-pub reached-sound : {s : State} → Reached s → SoundCore (s .core)
-unfolding freshOf
-reached-sound (fresh stamp) = fresh-sound
-reached-sound (step {s} before stamp bytes) =
-    let sound : SoundCore (s .core) = reached-sound before in
-    step-keeps (λ (t : State). SoundCore (t .core)) s stamp bytes (accepted-sound s stamp bytes sound) sound
+-- A vote leaves as many sensors as there were.
+votes-length : (bytes : List ℕ) (voters : List Voter) → length (allVoted bytes voters) ≡ length voters
+unfolding allVoted
+votes-length bytes voters =
+    sym (ap length (upTo-all (votesAt bytes) 0 (length voters) voters (le-refl (length voters)))) ∙
+    upTo-length (votesAt bytes) 0 (length voters) voters
+
+accepted-allowed : (s : State) (stamp : ℕ) (bytes : List ℕ) → Allowed s → Allowed (accepted s stamp bytes)
+unfolding accepted agesStage voteStage monitorsStage sequenceStage ordersStage coreAges coreHandle coreMonitors coreSequence coreOrders
+accepted-allowed s stamp bytes allowed =
+    let votes : List Voter = allVoted bytes (s .voters) in
+    let elapsed : ℕ = elapsedOf (s .stamp) stamp in
+    let watched : State = monitorsStage (voteStage bytes (agesStage stamp s)) in
+    let moved : Core = sequenceStage watched .core in
+    orders-allow elapsed stamp (moved .since) (moved .cause) votes (moved .place) (s .core .orders)
+    (votes-length bytes (s .voters) ∙ allowed .sensors)
+    (sequence-has-open (anomaly (watched .core)) (aimed votes) (s .core .place) (seenOf (sightOf votes))
+    (λ m. rw (allowed .rules .movingHaveOpen m) tt))
+    (since-aged (turned (s .voters) votes) elapsed (s .core .since))
+    (accepted-to-13 s stamp bytes (allowed .causes))
+    (accepted-has-cause s stamp bytes)
+
+fresh-allowed : (stamp : ℕ) → Allowed (freshOf stamp)
+unfolding freshOf freshCore freshOrders offLong freshVoters
+fresh-allowed stamp =
+    record {
+      sensors = refl;
+      ages = (lit≤ tt, lit≤ tt, lit≤ tt, lit≤ tt, lit≤ tt, lit≤ tt);
+      causes = lit≤ tt;
+      rules =
+          record {
+            movingHaveOpen = λ h. absurd h;
+            onIsWanted = (λ h. absurd h, λ h. absurd h, λ h. absurd h, λ h. absurd h);
+            onHasGeneral = (λ h. absurd h, λ h. absurd h, λ h. absurd h, λ h. absurd h);
+            openHaveGeneral = λ notClosed none. absurd (notClosed refl);
+            invalidHasCause = λ h. absurd (subst T fresh-all-valid h);
+          };
+    }
+
+-- Every state that is reached, from a fresh start or a taken image, is one that an image may be of.
+pub reached-is-allowed : Always Allowed
+reached-is-allowed s (fresh stamp) = fresh-allowed stamp
+reached-is-allowed s (loaded image taken stamp) = taken-is-allowed image taken stamp
+reached-is-allowed s (step {s = before} reached stamp bytes) =
+    let allowed : Allowed before = reached-is-allowed before reached in
+    step-keeps Allowed before stamp bytes (accepted-allowed before stamp bytes allowed) allowed

@@ -10,8 +10,8 @@ use Rattle.sequence.specs.declared.Aim.{Aim}
 use Rattle.sequence.specs.declared.Aim.the-variants.{ToRetracted, ToExtended}
 use Rattle.sequence.specs.declared.Seen.{Seen}
 use Rattle.sequence.specs.Moves.{place, doorsToGears, moveOf}
+use Rattle.controller.specs.Shows.{red}
 use Rattle.laws.specs.Reached.{after}
-use Rattle.laws.specs.Laws.{red}
 use Rattle.laws.specs.AsPrinted.{
   printedMoveOf,
   printedSequence,

@@ -10,24 +10,13 @@ use lib.ListN.{take}
 use Rattle.controller.specs.declared.State.{State}
 use Rattle.controller.specs.Start.{freshOf}
 use Rattle.controller.specs.Steps.{stepOf}
+use Rattle.controller.specs.Shows.{generalEV, closeEV, openEV, retractEV, extendEV, gearsMove, red, invalidSensor}
 use Rattle.controller.specs.SessionS.{Row, answers, lineOf}
+use Rattle.image.specs.Images.{loadedAt}
+use Rattle.image.specs.Conditions.{Taken}
 use Rattle.laws.specs.Reached.{Reached, after}
-use Rattle.laws.specs.Reached.Reached.{fresh, step}
-use Rattle.laws.specs.Laws.{
-  Always,
-  Sometimes,
-  generalEV,
-  closeEV,
-  openEV,
-  retractEV,
-  extendEV,
-  gearsMove,
-  doorsOutWithoutRed,
-  red,
-  invalidSensor,
-  hasLastCause,
-  hasLargestAges,
-}
+use Rattle.laws.specs.Reached.Reached.{fresh, loaded, step}
+use Rattle.laws.specs.Laws.{Always, Sometimes, doorsOutWithoutRed, hasLastCause, hasLargestAges}
 use Rattle.laws.specs.Lesson.{lesson, lessonLines, brokenSwitch}
 use Rattle.laws.proofs.Computing.{runs}
 
@@ -39,6 +28,16 @@ after-is-reached s reached (r ∷ rs) = after-is-reached (stepOf s (r .0) (r .1)
 
 pub after-every-sequence : (Law : State → Type 0) → Always Law → (start : ℕ) (rows : List Row) → Law (after (freshOf start) rows)
 after-every-sequence Law always start rows = always _ (after-is-reached (freshOf start) (fresh start) rows)
+
+pub after-every-sequence-from-an-image :
+    (Law : State → Type 0) →
+    Always Law →
+    (image : List ℕ) →
+    Taken image →
+    (stamp : ℕ) (rows : List Row) →
+    Law (after (loadedAt stamp image) rows)
+after-every-sequence-from-an-image Law always image taken stamp rows =
+    always _ (after-is-reached (loadedAt stamp image) (loaded image taken stamp) rows)
 
 -- Doors open, gears retract, doors close, handle down, doors open, gears extend, doors close, general_EV stops; never red.
 pub a-whole-lesson : map lineOf (answers (freshOf 0) lesson) ≡ lessonLines

@@ -9,7 +9,6 @@ use Rattle.sequence.specs.declared.Gears.{Gears}
 use Rattle.sequence.specs.declared.Gears.the-variants.{Retracted, Extending, Extended, Retracting}
 use Rattle.sequence.specs.declared.Place.{Place}
 use Rattle.orders.specs.Timing.{isOpening, isClosing, isRetracting, isExtending, wantedOf}
-use Rattle.laws.specs.Sound.{areOpen}
 
 opening : (doors : Doors) → T (isOpening doors) → doors ≡ Opening
 opening Closed h = absurd h
@@ -22,12 +21,6 @@ closing Closed h = absurd h
 closing Opening h = absurd h
 closing Open h = absurd h
 closing Closing h = refl
-
-pub are-open : (doors : Doors) → T (areOpen doors) → doors ≡ Open
-are-open Closed h = absurd h
-are-open Opening h = absurd h
-are-open Open h = refl
-are-open Closing h = absurd h
 
 retracting : (gears : Gears) → T (isRetracting gears) → gears ≡ Retracting
 retracting Retracted h = absurd h

@@ -1,11 +1,11 @@
--- The laws on causes, over every sequence: an invalid sensor has a cause, since cause 13 is looked at in the step that votes it;
--- and there are thirteen causes. Of the voter only `fresh-is-valid` is used.
+-- The causes of one accepted step: an invalid sensor has a cause, since cause 13 is looked at in the step that votes it; and there
+-- are thirteen causes. Of the voter only `fresh-is-valid` is used.
 -- Assumes nothing.
 use Prim.Native.Nat.{ℕ, suc, _+_, _≤_, zero-le}
 use native.Mathlib.Omega.{arith}
 use mathlib.Core.Bool.{Bool, true, false, cond, not}
 use mathlib.Core.List.{List, [], _∷_, _++_}
-use mathlib.Core.Path.{_≡_, subst}
+use mathlib.Core.Path.{_≡_}
 use lib.Dec.{T, eqb, T-not}
 use lib.ListN.{length, take}
 use borrow.Author.Tests.{eq-eqb}
@@ -18,7 +18,7 @@ use Rattle.monitors.specs.Causes.{causes, causeOf}
 use Rattle.controller.specs.declared.Core.{Core}
 use Rattle.controller.specs.declared.State.{State}
 use Rattle.controller.specs.Votes.{someInvalid, sightOf}
-use Rattle.controller.specs.Start.{freshCore, freshVoters, freshOf}
+use Rattle.controller.specs.Start.{freshVoters}
 use Rattle.controller.specs.Stages.{
   anomaly,
   coreAges,
@@ -33,10 +33,9 @@ use Rattle.controller.specs.Stages.{
   ordersStage,
   accepted,
 }
-use Rattle.laws.specs.Reached.Reached.{fresh, step}
-use Rattle.laws.specs.Laws.{Always, lastCause, InvalidSensorHasCause, CausesTo13}
+use Rattle.image.specs.Items.{lastCause}
+use Rattle.image.specs.Conditions.{InvalidSensorHasCause, CausesTo13}
 use Rattle.laws.proofs.Kept.{by-cases}
-use Rattle.laws.proofs.Lifted.{step-keeps}
 
 -- ---- The first of some numbered tests
 
@@ -84,29 +83,16 @@ monitors-have-cause see c h = latched-is-a-cause (c .cause) _ (invalid-is-a-caus
 abbrev heard : State → ℕ → List ℕ → State
 heard s stamp bytes = voteStage bytes (agesStage stamp s)
 
-accepted-to-13 : (s : State) (stamp : ℕ) (bytes : List ℕ) → CausesTo13 s → CausesTo13 (accepted s stamp bytes)
+pub accepted-to-13 : (s : State) (stamp : ℕ) (bytes : List ℕ) → CausesTo13 s → CausesTo13 (accepted s stamp bytes)
 unfolding accepted agesStage voteStage monitorsStage sequenceStage ordersStage coreAges coreHandle coreSequence coreOrders
 accepted-to-13 s stamp bytes before = monitors-to-13 (sightOf (heard s stamp bytes .voters)) (heard s stamp bytes .core) before
 
-accepted-has-cause : (s : State) (stamp : ℕ) (bytes : List ℕ) → InvalidSensorHasCause (accepted s stamp bytes)
+pub accepted-has-cause : (s : State) (stamp : ℕ) (bytes : List ℕ) → InvalidSensorHasCause (accepted s stamp bytes)
 unfolding sightOf accepted agesStage voteStage monitorsStage sequenceStage ordersStage coreAges coreHandle coreSequence coreOrders
 accepted-has-cause s stamp bytes h = monitors-have-cause (sightOf (heard s stamp bytes .voters)) (heard s stamp bytes .core) h
 
--- ---- Every sequence
+-- ---- A fresh start
 
-fresh-all-valid : someInvalid freshVoters ≡ false
+pub fresh-all-valid : someInvalid freshVoters ≡ false
 unfolding some someInvalid freshVoters
 fresh-all-valid = simp fresh-is-valid
-
-pub causes-to-13 : Always CausesTo13
-unfolding freshOf freshCore
-causes-to-13 s (fresh stamp) = zero-le
-causes-to-13 s (step {s = before} reached stamp bytes) =
-    let kept : CausesTo13 before = causes-to-13 before reached in
-    step-keeps CausesTo13 before stamp bytes (accepted-to-13 before stamp bytes kept) kept
-
-pub an-invalid-sensor-has-a-cause : Always InvalidSensorHasCause
-unfolding freshOf
-an-invalid-sensor-has-a-cause s (fresh stamp) = λ h. absurd (subst T fresh-all-valid h)
-an-invalid-sensor-has-a-cause s (step {s = before} reached stamp bytes) =
-    step-keeps InvalidSensorHasCause before stamp bytes (accepted-has-cause before stamp bytes) (an-invalid-sensor-has-a-cause before reached)

@@ -2,7 +2,8 @@
 -- Assumes nothing.
 use mathlib.Core.Path.{refl}
 use Rattle.common.specs.Case.{AllAsWanted}
-use Rattle.voter.specs.Cases.{voterCases, shown, afterP1, channelsNumber}
+use Rattle.voter.specs.Numbers.{numberOf}
+use Rattle.voter.specs.Cases.{voterCases, shown, afterP1}
 use Rattle.laws.specs.Cases.{
   shownAnswer,
   nothingSeen,
@@ -25,7 +26,7 @@ use Rattle.controller.proofs.Computing.{rules}
 pub p1-to-p12 : AllAsWanted allCases
 unfolding
     rules
-    voterCases shown afterP1 channelsNumber
+    voterCases shown afterP1 numberOf
     shownAnswer nothingSeen stepFrom opensAtGeneral opensAtOpposite closesAtOpposite retractsAtOpposite extendsAtOpposite
     generalAtOthers causeAtOpen causeAtHandle doorsDown doorsWord stepCases allCases
 p1-to-p12 = refl

@@ -21,9 +21,9 @@ use Rattle.controller.specs.Votes.{handle, sensor, sightOf, seenOf, aimed}
 use Rattle.controller.specs.Start.{freshOf}
 use Rattle.controller.specs.Stages.{anomaly, agesStage, voteStage, monitorsStage, ordersStage}
 use Rattle.controller.specs.Steps.{refusalOf}
+use Rattle.controller.specs.Shows.{doorsOf, gearsOf, red}
 use Rattle.controller.specs.SessionS.{Row}
 use Rattle.laws.specs.Reached.{after}
-use Rattle.laws.specs.Laws.{doorsOf, gearsOf, red}
 use Rattle.laws.specs.Lesson.{sees, each100, retraction}
 
 -- Rule r_outgoingSequence with its sensors, gears not EXTENDED.

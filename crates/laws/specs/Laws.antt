@@ -1,80 +1,41 @@
--- The laws of document 01 ("Laws shown of these rules over every sequence"), and what request K3 asks of an image, each over
--- one state; a law holds `Always` if it holds of every state that the controller can come to.
+-- The laws of document 01 ("Laws shown of these rules over every sequence"), each over one state. A law holds `Always` if it holds of
+-- every state that the controller can come to; so do the conditions of request K3 (Conditions.antt of the image).
 -- Assumes nothing.
 use mathlib.Core.Bool.{Bool, true, false, not, _&&_}
 use mathlib.Core.List.{List}
 use mathlib.Core.Path.{_≡_}
-use Prim.Native.Nat.{ℕ, _≤_}
+use Prim.Native.Nat.{ℕ}
 use lib.Dec.{T, eqb}
-use Rattle.sequence.specs.declared.Doors.{Doors}
-use Rattle.sequence.specs.declared.Doors.the-variants.{Closed, Open}
-use Rattle.sequence.specs.declared.Gears.{Gears}
-use Rattle.orders.specs.Timing.{areClosed, wantedOf}
+use Rattle.sequence.specs.declared.Doors.the-variants.{Open}
+use Rattle.orders.specs.Timing.{areClosed}
 use Rattle.controller.specs.declared.State.{State}
-use Rattle.controller.specs.Votes.{handle, sensor, someInvalid}
-use Rattle.controller.specs.Stages.{anomaly}
+use Rattle.controller.specs.Votes.{handle, sensor}
 use Rattle.controller.specs.Steps.{stepOf}
-use Rattle.laws.specs.Sound.{areMoving}
+use Rattle.controller.specs.Shows.{closeEV, openEV, retractEV, extendEV, doorsOf, gearsRest, red}
+use Rattle.image.specs.Items.{oldest, lastCause}
+use Rattle.image.specs.Conditions.{OnHasGeneral}
 use Rattle.laws.specs.Reached.{Reached}
 use Rattle.laws.specs.GroundModel.{HandleStatus, OneMoveOrNone}
 use Rattle.laws.specs.GroundModel.HandleStatus.{UP, DOWN}
 
--- ---- What a state shows
-
-abbrev pub generalEV : State → Bool
-generalEV s = s .core .orders .general .on
-
-abbrev pub closeEV : State → Bool
-closeEV s = s .core .orders .closes .on
-
-abbrev pub openEV : State → Bool
-openEV s = s .core .orders .opens .on
-
-abbrev pub retractEV : State → Bool
-retractEV s = s .core .orders .retracts .on
-
-abbrev pub extendEV : State → Bool
-extendEV s = s .core .orders .extends .on
-
-abbrev pub doorsOf : State → Doors
-doorsOf s = s .core .place .doors
-
-abbrev pub gearsOf : State → Gears
-gearsOf s = s .core .place .gears
-
--- Gears EXTENDING or RETRACTING; RETRACTED or EXTENDED.
-abbrev pub gearsMove : State → Bool
-gearsMove s = areMoving (gearsOf s)
-
-abbrev pub gearsRest : State → Bool
-gearsRest s = not (gearsMove s)
-
--- An anomaly.
-abbrev pub red : State → Bool
-red s = anomaly (s .core)
-
-abbrev pub invalidSensor : State → Bool
-invalidSensor s = someInvalid (s .voters)
+-- ---- What the laws speak of, beside what a state shows
 
 -- Doors not CLOSED, and no anomaly.
 abbrev pub doorsOutWithoutRed : State → Bool
 doorsOutWithoutRed s = not (areClosed (doorsOf s)) && not (red s)
 
 -- The cause is the last of the thirteen; every age is the largest.
-abbrev pub lastCause : ℕ
-lastCause = 13
-
 abbrev pub hasLastCause : State → Bool
 hasLastCause s = eqb (s .core .cause) lastCause
 
 abbrev pub hasLargestAges : State → Bool
 hasLargestAges s =
-    eqb (s .core .orders .general .age) 60000 &&
-    eqb (s .core .orders .closes .age) 60000 &&
-    eqb (s .core .orders .opens .age) 60000 &&
-    eqb (s .core .orders .retracts .age) 60000 &&
-    eqb (s .core .orders .extends .age) 60000 &&
-    eqb (s .core .since) 60000
+    eqb (s .core .orders .general .age) oldest &&
+    eqb (s .core .orders .closes .age) oldest &&
+    eqb (s .core .orders .opens .age) oldest &&
+    eqb (s .core .orders .retracts .age) oldest &&
+    eqb (s .core .orders .extends .age) oldest &&
+    eqb (s .core .since) oldest
 
 -- The handle that the votes of a step say: 1 = down.
 abbrev pub statusOf : Bool → HandleStatus
@@ -84,7 +45,7 @@ statusOf false = UP
 abbrev pub handleOf : State → HandleStatus
 handleOf s = statusOf (sensor handle (s .voters))
 
--- ---- Over every sequence of samples, refused ones among them
+-- ---- Over every sequence of samples, refused ones among them, from a fresh start or a taken image
 
 abbrev pub Always : (State → Type 0) → Type 0
 Always Law = (s : State) → Reached s → Law s
@@ -101,11 +62,7 @@ OppositesNeverTogether s = (T (openEV s) → T (closeEV s) → ⊥) × (T (retra
 
 -- None of the four without general_EV.
 abbrev pub NoneWithoutGeneral : State → Type 0
-NoneWithoutGeneral s =
-    (T (closeEV s) → T (generalEV s)) ×
-    (T (openEV s) → T (generalEV s)) ×
-    (T (retractEV s) → T (generalEV s)) ×
-    (T (extendEV s) → T (generalEV s))
+NoneWithoutGeneral = OnHasGeneral
 
 -- Gear orders only with doors OPEN.
 abbrev pub GearOrdersOnlyWithDoorsOpen : State → Type 0
@@ -121,39 +78,3 @@ abbrev pub FollowsTheGroundModel : State → Type 0
 FollowsTheGroundModel s =
     (stamp : ℕ) (bytes : List ℕ) →
     OneMoveOrNone (handleOf (stepOf s stamp bytes .state)) (s .core .place) (stepOf s stamp bytes .state .core .place)
-
--- ---- What request K3 asks of an image
-
--- Moving gears have doors OPEN.
-abbrev pub MovingGearsHaveDoorsOpen : State → Type 0
-MovingGearsHaveDoorsOpen s = T (gearsMove s) → doorsOf s ≡ Open
-
--- Any of the four orders that is on is wanted. (That it has general_EV on is `NoneWithoutGeneral`.)
-abbrev pub OnIsWanted : State → Type 0
-OnIsWanted s =
-    (T (closeEV s) → T (wantedOf (s .core .place) (red s) .closes)) ×
-    (T (openEV s) → T (wantedOf (s .core .place) (red s) .opens)) ×
-    (T (retractEV s) → T (wantedOf (s .core .place) (red s) .retracts)) ×
-    (T (extendEV s) → T (wantedOf (s .core .place) (red s) .extends))
-
--- Doors not CLOSED without a cause has general_EV on.
-abbrev pub OpenDoorsHaveGeneral : State → Type 0
-OpenDoorsHaveGeneral s = ¬ (doorsOf s ≡ Closed) → s .core .cause ≡ 0 → T (generalEV s)
-
--- An invalid sensor has a cause.
-abbrev pub InvalidSensorHasCause : State → Type 0
-InvalidSensorHasCause s = T (invalidSensor s) → ¬ (s .core .cause ≡ 0)
-
--- Ages to 60,000: the five orders' and the handle's.
-abbrev pub AgesTo60000 : State → Type 0
-AgesTo60000 s =
-    (s .core .orders .general .age ≤ 60000) ×
-    (s .core .orders .closes .age ≤ 60000) ×
-    (s .core .orders .opens .age ≤ 60000) ×
-    (s .core .orders .retracts .age ≤ 60000) ×
-    (s .core .orders .extends .age ≤ 60000) ×
-    (s .core .since ≤ 60000)
-
--- Causes to 13.
-abbrev pub CausesTo13 : State → Type 0
-CausesTo13 s = s .core .cause ≤ lastCause

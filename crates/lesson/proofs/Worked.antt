@@ -1,11 +1,12 @@
--- Session S of document 01 comes out as it prints it, with the lamps of request K1, byte for byte, and so do the short inputs
--- that end early: the rules compute.
+-- Session S of document 01 comes out as it prints it, with the lamps of request K1, byte for byte, and so do a part of it that is
+-- handed over and the short inputs that end early: the rules compute.
 -- Assumes nothing.
 use mathlib.Core.List.{_∷_}
 use mathlib.Core.Path.{refl}
 use Rattle.common.specs.Ascii.{joinedByCommas}
 use Rattle.common.specs.Case.{AllAsWanted}
 use Rattle.common.specs.Decimal.{decimal, decimalUpTo}
+use Rattle.controller.specs.Start.{startedAt}
 use Rattle.controller.proofs.Computing.{rules}
 use Rattle.lines.specs.Rows.{before, rowsOf}
 use Rattle.trace.specs.Numbers.{digitsFrom, numberOf, tripleOf}
@@ -13,14 +14,15 @@ use Rattle.trace.specs.Rows.{fieldsOf, triplesOf, formOf, inTurn, readRow}
 use Rattle.trace.specs.Header.{headerNames, headerText as traceHeader, sameText}
 use Rattle.output.specs.Rows.{headerText, rowText, refusalText}
 use Rattle.reading.specs.Rows.{endsAt, headerRow, answerTo, shownRow, noSample, traceRow, rowOf, endOf, nothingRead}
-use Rattle.lesson.specs.Replay.{textOf, writtenOf, replayOf}
-use Rattle.lesson.specs.Cases.{ended, trace, output, replays, sessionS, early, afterTheLastLabel}
+use Rattle.reading.specs.Whole.{readTo}
+use Rattle.lesson.specs.Replay.{textOf, writtenOf, replayOf, resumedOf}
+use Rattle.lesson.specs.Cases.{ended, trace, output, replays, rowsOfS, sessionS, handedOver, early, afterTheLastLabel}
 
-pub worked : AllAsWanted (sessionS ∷ afterTheLastLabel ∷ early)
+pub worked : AllAsWanted (sessionS ∷ handedOver ∷ afterTheLastLabel ∷ early)
 unfolding
-    rules
+    rules startedAt
     before rowsOf digitsFrom numberOf tripleOf fieldsOf triplesOf formOf inTurn readRow headerNames traceHeader sameText
     decimal decimalUpTo joinedByCommas headerText rowText refusalText
-    endsAt headerRow answerTo shownRow noSample traceRow rowOf endOf nothingRead textOf writtenOf replayOf
-    ended trace output replays sessionS early afterTheLastLabel
+    endsAt headerRow answerTo shownRow noSample traceRow rowOf endOf nothingRead readTo textOf writtenOf replayOf resumedOf
+    ended trace output replays rowsOfS sessionS handedOver early afterTheLastLabel
 worked = refl

@@ -1,18 +1,21 @@
--- Document 01, "Session S", as the whole input and the whole output with the lamps of request K1, and short inputs that end
--- early.
+-- Document 01, "Session S", as the whole input and the whole output with the lamps of request K1; a part of it that is handed over
+-- (request K3); and short inputs that end early.
 -- Assumes nothing.
 use mathlib.Core.List.{List, [], _∷_, _++_}
 use Prim.Native.Nat.{ℕ}
 use Prim.Native.String.{String}
-use lib.ListN.{drop, replicate}
+use lib.ListN.{take, drop, replicate}
 use Rattle.common.specs.Ascii.{ascii}
 use Rattle.common.specs.Case.{Case}
+use Rattle.lines.specs.Rows.{rowsOf}
 use Rattle.trace.specs.declared.Due.the-variants.{Label}
 use Rattle.trace.specs.Header.{headerText as traceHeader}
 use Rattle.controller.specs.Start.{freshOf}
 use Rattle.output.specs.Rows.{headerText, crlf}
 use Rattle.reading.specs.declared.Phase.the-variants.{Rows}
-use Rattle.lesson.specs.Replay.{writtenOf, replayOf}
+use Rattle.reading.specs.Rows.{nothingRead}
+use Rattle.reading.specs.Whole.{readTo}
+use Rattle.lesson.specs.Replay.{writtenOf, replayOf, resumedOf}
 
 -- Rows that each end in CRLF.
 unfoldable pub ended : List (List ℕ) → List ℕ
@@ -45,11 +48,9 @@ doorsOpen = ascii "000,000,111,111,111,000,000,000,000,000,000,000,000,000,111,1
 abbrev pub gearsMoving : List ℕ
 gearsMoving = ascii "111,000,000,000,000,000,000,000,000,000,000,000,000,000,111,111,111,000"
 
-unfoldable pub sessionS : Case
-sessionS =
-    replays "Session S"
-    (trace
-    ((ascii "0,1000," ++ atRest)
+unfoldable pub rowsOfS : List (List ℕ)
+rowsOfS =
+    (ascii "0,1000," ++ atRest)
     ∷ (ascii "1,1050," ++ atRest)
     ∷ (ascii "2,1150," ++ handleUp)
     ∷ (ascii "3,1250," ++ handleUp)
@@ -61,7 +62,11 @@ sessionS =
     ∷ (ascii "9,1550," ++ gearsMoving)
     ∷ (ascii "10,1649," ++ gearsMoving)
     ∷ (ascii "11,1650," ++ gearsMoving)
-    ∷ []))
+    ∷ []
+
+unfoldable pub sessionS : Case
+sessionS =
+    replays "Session S" (trace rowsOfS)
     (output
     (ascii "0,0,0,0,0,0,0,CLOSED,EXTENDED,1,0,0"
     ∷ ascii "1,0,0,0,0,0,0,CLOSED,EXTENDED,1,0,0"
@@ -76,6 +81,23 @@ sessionS =
     ∷ ascii "10,0,1,0,0,0,0,OPEN,EXTENDING,0,1,0"
     ∷ ascii "11,0,1,0,0,0,1,OPEN,EXTENDING,0,1,0"
     ∷ []))
+
+-- Request K3: the same session, handed over behind row 4. Row 0 of the trace that goes on shows the controller as row 4 left it,
+-- at its own stamp; 50 and 100 ms after that come what were rows 6 and 7.
+unfoldable pub handedOver : Case
+handedOver =
+    record {
+      name = "Session S, handed over behind row 4";
+      gives =
+          resumedOf (readTo nothingRead (rowsOf (trace (take 5 rowsOfS))) .state)
+          (trace ((ascii "0,70000," ++ atRest) ∷ (ascii "1,70050," ++ doorsOpen) ∷ (ascii "2,70100," ++ doorsOpen) ∷ []));
+      wanted =
+          output
+          (ascii "0,0,1,0,1,0,0,OPENING,EXTENDED,1,0,0"
+          ∷ ascii "1,0,1,0,0,0,0,OPEN,EXTENDED,1,1,0"
+          ∷ ascii "2,0,1,0,0,1,0,OPEN,RETRACTING,1,1,0"
+          ∷ []);
+    }
 
 -- ---- Inputs that end early
 

@@ -9,10 +9,12 @@ use lib.ListN.{length, take, drop}
 use Rattle.lines.specs.Cuts.{cutOf}
 use Rattle.lines.specs.declared.Taken.{Taken}
 use Rattle.lines.specs.declared.Taken.the-variants.{Row, More, Over}
+use Rattle.controller.specs.declared.State.{State}
+use Rattle.controller.specs.Start.{freshOf}
 use Rattle.reading.specs.declared.Reading.{Reading}
 use Rattle.reading.specs.declared.Heard.{Heard}
 use Rattle.reading.specs.Lasts.{lastHeard}
-use Rattle.reading.specs.Rows.{rowOf, overOf, nothingRead}
+use Rattle.reading.specs.Rows.{rowOf, overOf, readFrom}
 use Rattle.lesson.specs.declared.Lesson.{Lesson}
 use Rattle.lesson.specs.declared.Took.{Took}
 use Rattle.lesson.specs.Replay.{textOf}
@@ -23,9 +25,13 @@ pub record Part : Type 0 where
   pub line : List ℕ
   pub text : List ℕ
 
--- At the start nothing is read, and no row is under way.
+-- At the start nothing is read, and no row is under way. The controller is the one to go on with.
+unfoldable pub lessonFrom : State → Lesson
+lessonFrom state = record { reading = readFrom state; len = 0; cr = false }
+
+-- A run of `replay` starts from a fresh controller.
 unfoldable pub newLesson : Lesson
-newLesson = record { reading = nothingRead; len = 0; cr = false }
+newLesson = lessonFrom (freshOf 0)
 
 -- ---- A part of the input
 

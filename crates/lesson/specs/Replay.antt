@@ -11,7 +11,7 @@ use Rattle.reading.specs.declared.Reading.{Reading}
 use Rattle.reading.specs.declared.Came.{Came}
 use Rattle.reading.specs.declared.Came.the-variants.{Nothing, Answered, Refused}
 use Rattle.reading.specs.declared.Heard.{Heard}
-use Rattle.reading.specs.Rows.{rowOf, endOf, nothingRead}
+use Rattle.reading.specs.Rows.{rowOf, endOf, readFrom, nothingRead}
 
 -- ---- One row
 
@@ -35,3 +35,7 @@ writtenOf reading (row ∷ rows) = textOf (rowOf reading row) ++ writtenOf (rowO
 -- The output header comes first in every case; then what is written of the rows of the input.
 unfoldable pub replayOf : List ℕ → List ℕ
 replayOf input = headerText ++ writtenOf nothingRead (rowsOf input)
+
+-- Request K3: the same where a lesson goes on from a controller. Row 0 gives the new start stamp, and its row shows the controller.
+unfoldable pub resumedOf : State → List ℕ → List ℕ
+resumedOf state input = headerText ++ writtenOf (readFrom state) (rowsOf input)

@@ -33,3 +33,9 @@ writtenInAll lesson line [] last = wrote (finishOf lesson line last)
 writtenInAll lesson line (call ∷ calls) last =
     wrote (takeOf lesson (call .part) line (call .out))
     ++ writtenInAll (takeOf lesson (call .part) line (call .out) .0 .lesson) (takeOf lesson (call .part) line (call .out) .1) calls last
+
+-- The run that is left of it: the one that `finish` leaves, behind the same calls.
+unfoldable pub leftInAll : Lesson → List ℕ → List Call → List ℕ → Lesson
+leftInAll lesson line [] last = finishOf lesson line last .0 .lesson
+leftInAll lesson line (call ∷ calls) last =
+    leftInAll (takeOf lesson (call .part) line (call .out) .0 .lesson) (takeOf lesson (call .part) line (call .out) .1) calls last

@@ -1,13 +1,15 @@
 // A whole run of the program `replay`: the rows of a trace, what each comes to (the crate `reading`), and what is written of it.
 // The rule is specs/Replay.antt, from all bytes of the input to all bytes of the output (document 01, "The trace and its
 // program"). The input is taken in by parts of any size: specs/Parts.antt says what a part gives, and proofs/Law.antt that
-// however the input is cut, what is written in all is the output of the whole.
+// however the input is cut, what is written in all is the output of the whole. Request K3: a run may also go on from a controller
+// that was handed over, and the controller that it leaves may be saved.
 ghost use mathlib.Core.Path.{_≡_};
 ghost use Prim.Native.Nat.{_+_, _≤_};
 ghost use lib.ListN.{length};
 ghost use Rattle.lesson.specs.Replay.{textOf};
-ghost use Rattle.lesson.specs.Parts.{newLesson, roomFor, partOf, lastPartOf, placed, refused, takeOf, finishOf};
+ghost use Rattle.lesson.specs.Parts.{lessonFrom, newLesson, roomFor, partOf, lastPartOf, placed, refused, takeOf, finishOf};
 ghost use Rattle.lesson.specs.Writes.{bytesOf, told, ToldAt};
+use controller::State;
 use lines::Taken;
 use output::Written;
 use reading::Came;
@@ -81,15 +83,22 @@ fn taken_in(reading: Reading, len: usize, cr: bool, written: usize) -> Took
 }
 
 impl Lesson {
-    // A run at its start.
-    pub fn new() -> Self
-        ensures { λ r. ⌜ r ≡ newLesson ⌝ }
+    // A run at its start, with the controller to go on with.
+    pub fn from(state: State) -> Self
+        ensures { λ r. ⌜ r ≡ lessonFrom state ⌝ }
     {
         Lesson {
-            reading: Reading::new(),
+            reading: Reading::from(state),
             len: 0,
             cr: false,
         }
+    }
+
+    // A run of `replay` at its start, from a fresh controller.
+    pub fn new() -> Self
+        ensures { λ r. ⌜ r ≡ newLesson ⌝ }
+    {
+        Lesson::from(State::fresh(0))
     }
 
     // How far the trace has been read, and what ended the reading.
@@ -98,6 +107,14 @@ impl Lesson {
     {
         let reading = self.reading;
         reading.phase
+    }
+
+    // The controller as the last row left it.
+    pub fn state(self) -> State
+        ensures { λ r. ⌜ r ≡ self .reading .state ⌝ }
+    {
+        let reading = self.reading;
+        reading.state
     }
 
     // A line buffer that is not 512 bytes, or an output buffer that has no room.

@@ -1,10 +1,9 @@
 -- Laws of one step of the orders.
 -- Assumes nothing.
 use mathlib.Core.Bool.{Bool, true, false, cond, not, _&&_, _||_, Bool·beq}
-use mathlib.Core.Path.{_≡_, refl, sym, ap, subst}
+use mathlib.Core.Path.{_≡_, refl, sym, subst}
 use lib.Dec.{T}
 use Rattle.orders.specs.declared.Order.{Order}
-use Rattle.orders.specs.declared.Orders.{Orders}
 use Rattle.orders.specs.Timing.{onFor, offFor, order, switched, directed, generalOf}
 
 both : (a b : Bool) → T (a && b) → T a × T b

@@ -159,8 +159,8 @@ fn extending(gears: Gears) -> bool
     }
 }
 
-// Doors CLOSED.
-fn closed(doors: Doors) -> bool
+// Whether the doors are CLOSED.
+pub fn closed(doors: Doors) -> bool
     ensures { λ r. ⌜ r ≡ areClosed doors ⌝ }
 {
     match doors {

@@ -2,16 +2,13 @@
 -- more to tell, and once a row is read there is nothing to tell of the end of the input. Each by the phases.
 -- Assumes nothing.
 use Prim.Native.Nat.{ℕ, _<_}
-use mathlib.Core.Bool.{Bool, true, false}
 use mathlib.Core.List.{List}
 use mathlib.Core.Path.{_≡_, refl}
 use borrow.Author.Tests.{lt-ltb}
-use lib.Dec.{ltb}
 use lib.ListN.{length}
 use Rattle.common.specs.Answers.{Answer as RowAnswer, gives, refuses}
 use Rattle.trace.specs.declared.Due.{Due}
 use Rattle.trace.specs.Rows.{readRow}
-use Rattle.trace.specs.Header.{headerText as traceHeader, sameText}
 use Rattle.controller.specs.declared.State.{State}
 use Rattle.reading.specs.declared.Phase.{Phase}
 use Rattle.reading.specs.declared.Phase.the-variants.{Header, Rows, Ended}
@@ -20,6 +17,7 @@ use Rattle.reading.specs.declared.Came.the-variants.{Refused}
 use Rattle.reading.specs.declared.Heard.{Heard}
 use Rattle.reading.specs.Rows.{untold, endsAt, headerRow, shownRow, asRead, noSample, traceRow, rowOf, overOf, endOf}
 use Rattle.reading.specs.Ends.{Silent}
+use Rattle.reading.proofs.FirstRow.{by-first-row}
 
 -- ---- A row over 512 bytes
 
@@ -67,12 +65,10 @@ refusal-past : (line refusal : ℕ) (state : State) → Past (endsAt line refusa
 unfolding endsAt endOf
 refusal-past line refusal state = record { ends = λ l n e. cc; quiet = refl }
 
-header-past : (over same : Bool) (state : State) (row : List ℕ) → ltb 512 (length row) ≡ over → sameText row traceHeader ≡ same
-    → Past (headerRow state row)
-unfolding headerRow endOf
-header-past true same state row e f = rw e (refusal-past 1 6 state)
-header-past false true state row e f = rw (e, f) (record { ends = λ l n g. cc; quiet = refl })
-header-past false false state row e f = rw (e, f) (refusal-past 1 5 state)
+header-past : (state : State) (row : List ℕ) → Past (headerRow state row)
+unfolding endOf
+header-past state row =
+    by-first-row Past state row (λ refusal. refusal-past 1 refusal state) (record { ends = λ l n g. cc; quiet = refl })
 
 read-past : (due : Due) (state : State) (answer : RowAnswer (ℕ × ℕ)) (sample : List ℕ) → Past (asRead due state answer sample)
 unfolding shownRow endOf
@@ -81,7 +77,7 @@ read-past due state (refuses n) sample = refusal-past _ n state
 
 past-in : (phase : Phase) (state : State) (row : List ℕ) → Past (rowOf (record { phase = phase; state = state }) row)
 unfolding rowOf traceRow endOf
-past-in Header state row = header-past (ltb 512 (length row)) (sameText row traceHeader) state row refl refl
+past-in Header state row = header-past state row
 past-in (Rows due) state row = read-past due state (readRow row due noSample .0) (readRow row due noSample .1)
 past-in (Ended line refusal) state row = record { ends = λ l n g. cc; quiet = refl }
 

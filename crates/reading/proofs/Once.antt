@@ -8,6 +8,10 @@ use Rattle.common.specs.OneAnswer.{OneAnswer, OneAnswerAnd}
 use Rattle.common.proofs.Pairs.{both}
 use Rattle.reading.proofs.Phase.has_ended.Kinds as has-ended-kinds
 use Rattle.reading.proofs.Phase.has_ended.Reads as has-ended-reads
+use Rattle.reading.proofs.Phase.has_started.Kinds as has-started-kinds
+use Rattle.reading.proofs.Phase.has_started.Reads as has-started-reads
+use Rattle.reading.proofs.Reading.from.Kinds as reading-from-kinds
+use Rattle.reading.proofs.Reading.from.Reads as reading-from-reads
 use Rattle.reading.proofs.Reading.new.Kinds as reading-new-kinds
 use Rattle.reading.proofs.Reading.new.Reads as reading-new-reads
 use Rattle.reading.proofs.Reading.row.Kinds as reading-row-kinds
@@ -21,6 +25,12 @@ use Rattle.reading.proofs.Reading.last.Reads as reading-last-reads
 
 pub has-ended-once : OneAnswer 0 has-ended-kinds.ps has-ended-kinds.r has-ended-reads.Post
 has-ended-once κs a x y s t p q = p ∙ sym q
+
+pub has-started-once : OneAnswer 0 has-started-kinds.ps has-started-kinds.r has-started-reads.Post
+has-started-once κs a x y s t p q = p ∙ sym q
+
+pub reading-from-once : OneAnswer 0 reading-from-kinds.ps reading-from-kinds.r reading-from-reads.Post
+reading-from-once κs a x y s t p q = p ∙ sym q
 
 pub reading-new-once : OneAnswer 0 reading-new-kinds.ps reading-new-kinds.r reading-new-reads.Post
 reading-new-once κs a x y s t p q = p ∙ sym q

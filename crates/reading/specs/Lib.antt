@@ -1,3 +1,4 @@
 pub mod Lasts
 pub mod Rows
 pub mod Ends
+pub mod Whole

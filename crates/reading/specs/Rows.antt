@@ -14,7 +14,7 @@ use Rattle.trace.specs.Rows.{readRow}
 use Rattle.trace.specs.Header.{headerText as traceHeader, sameText}
 use Rattle.controller.specs.declared.State.{State}
 use Rattle.controller.specs.declared.Answer.{Answer}
-use Rattle.controller.specs.Start.{freshOf}
+use Rattle.controller.specs.Start.{freshOf, startedAt}
 use Rattle.controller.specs.Steps.{stepOf}
 use Rattle.reading.specs.declared.Phase.{Phase}
 use Rattle.reading.specs.declared.Phase.the-variants.{Header, Rows, Ended}
@@ -52,10 +52,11 @@ headerRow state row =
     (cond (sameText row traceHeader) (untold (record { phase = Rows (Label 0); state = state }))
     (endsAt 1 5 state))
 
--- Row 0 gives the start stamp; its sample is read but not used. Each other row is a step of the controller.
+-- Row 0 gives the start stamp; its sample is read but not used. (A run of `replay` starts from a fresh controller, so its row 0
+-- is a fresh start at that stamp.) Each other row is a step of the controller.
 unfoldable pub answerTo : State → ℕ → ℕ → List ℕ → Answer
 answerTo state label stamp sample =
-    cond (eqb label 0) (record { refusal = 0; state = freshOf stamp }) (stepOf state stamp sample)
+    cond (eqb label 0) (record { refusal = 0; state = startedAt stamp state }) (stepOf state stamp sample)
 
 -- One row per row: label, 0 or the refusal, and the state to show; after a refusal 3 or 4 that is the state kept. A row that
 -- gets 3 or 4 uses up its label.
@@ -112,8 +113,19 @@ hasEnded Header = false
 hasEnded (Rows due) = false
 hasEnded (Ended line refusal) = true
 
+-- Row 0, which is line 2, has been read: the line that is due, or that the reading ended on, is a later one. Then there is a
+-- controller to save.
+abbrev pub hasStarted : Phase → Bool
+hasStarted Header = false
+hasStarted (Rows due) = ltb 2 (lineOf due)
+hasStarted (Ended line refusal) = ltb 2 line
+
 -- ---- The start
 
--- At the start nothing is read. (The controller starts with row 0; until then this one stands there and is not used.)
+-- At the start nothing is read. The controller is the one to go on with: row 0 gives it its start stamp.
+abbrev pub readFrom : State → Reading
+readFrom state = record { phase = Header; state = state }
+
+-- A run of `replay` or `waves` starts from a fresh controller. (Until row 0 gives it its stamp it is not used.)
 unfoldable pub nothingRead : Reading
-nothingRead = record { phase = Header; state = freshOf 0 }
+nothingRead = readFrom (freshOf 0)

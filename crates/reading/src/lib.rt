@@ -3,7 +3,21 @@
 // writes it as the rows of `replay`, and `dumping` as the dump of `waves`.
 ghost use mathlib.Core.Path.{_≡_};
 ghost use Rattle.reading.specs.Lasts.{lastHeard};
-ghost use Rattle.reading.specs.Rows.{hasEnded, nextDue, lineOf, endsAt, headerRow, answerTo, traceRow, rowOf, overOf, endOf, nothingRead};
+ghost use Rattle.reading.specs.Rows.{
+  nextDue,
+  lineOf,
+  endsAt,
+  headerRow,
+  answerTo,
+  traceRow,
+  rowOf,
+  overOf,
+  endOf,
+  hasEnded,
+  hasStarted,
+  readFrom,
+  nothingRead,
+};
 use controller::Answer;
 use controller::State;
 use lines::Final;
@@ -107,7 +121,7 @@ fn answer_to(state: State, label: u32, stamp: u32, sample: &[u8]) -> Answer
     if label == 0 {
         return Answer {
             refusal: 0,
-            state: State::fresh(stamp),
+            state: state.started_at(stamp),
         };
     }
     state.step(stamp, sample)
@@ -151,17 +165,35 @@ impl Phase {
             } => true,
         }
     }
+
+    // Whether row 0 has been read: the line that is due, or that the reading ended on, is past its line.
+    pub fn has_started(self) -> bool
+        ensures { λ r. ⌜ r ≡ hasStarted self ⌝ }
+    {
+        match self {
+            Phase::Header => false,
+            Phase::Rows(due) => 2 < line_of(due),
+            Phase::Ended { line, refusal: _ } => 2 < line,
+        }
+    }
 }
 
 impl Reading {
-    // Before the first row.
-    pub fn new() -> Self
-        ensures { λ r. ⌜ r ≡ nothingRead ⌝ }
+    // Before the first row, with the controller to go on with.
+    pub fn from(state: State) -> Self
+        ensures { λ r. ⌜ r ≡ readFrom state ⌝ }
     {
         Reading {
             phase: Phase::Header,
-            state: State::fresh(0),
+            state,
         }
+    }
+
+    // Before the first row of a run that starts from a fresh controller.
+    pub fn new() -> Self
+        ensures { λ r. ⌜ r ≡ nothingRead ⌝ }
+    {
+        Reading::from(State::fresh(0))
     }
 
     // One row, without its line break.

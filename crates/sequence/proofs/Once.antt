@@ -6,9 +6,29 @@ use Rattle.sequence.proofs.at_aim.Kinds as at-aim-kinds
 use Rattle.sequence.proofs.at_aim.Reads as at-aim-reads
 use Rattle.sequence.proofs.Place.moved.Kinds as place-moved-kinds
 use Rattle.sequence.proofs.Place.moved.Reads as place-moved-reads
+use Rattle.sequence.proofs.Doors.number.Kinds as doors-number-kinds
+use Rattle.sequence.proofs.Doors.number.Reads as doors-number-reads
+use Rattle.sequence.proofs.Doors.numbered.Kinds as doors-numbered-kinds
+use Rattle.sequence.proofs.Doors.numbered.Reads as doors-numbered-reads
+use Rattle.sequence.proofs.Gears.number.Kinds as gears-number-kinds
+use Rattle.sequence.proofs.Gears.number.Reads as gears-number-reads
+use Rattle.sequence.proofs.Gears.numbered.Kinds as gears-numbered-kinds
+use Rattle.sequence.proofs.Gears.numbered.Reads as gears-numbered-reads
 
 pub at-aim-once : OneAnswer 0 at-aim-kinds.ps at-aim-kinds.r at-aim-reads.Post
 at-aim-once κs a x y s t p q = p ∙ sym q
 
 pub place-moved-once : OneAnswer 0 place-moved-kinds.ps place-moved-kinds.r place-moved-reads.Post
 place-moved-once κs a x y s t p q = p ∙ sym q
+
+pub doors-number-once : OneAnswer 0 doors-number-kinds.ps doors-number-kinds.r doors-number-reads.Post
+doors-number-once κs a x y s t p q = p ∙ sym q
+
+pub doors-numbered-once : OneAnswer 0 doors-numbered-kinds.ps doors-numbered-kinds.r doors-numbered-reads.Post
+doors-numbered-once κs a x y s t p q = p ∙ sym q
+
+pub gears-number-once : OneAnswer 0 gears-number-kinds.ps gears-number-kinds.r gears-number-reads.Post
+gears-number-once κs a x y s t p q = p ∙ sym q
+
+pub gears-numbered-once : OneAnswer 0 gears-numbered-kinds.ps gears-numbered-kinds.r gears-numbered-reads.Post
+gears-numbered-once κs a x y s t p q = p ∙ sym q

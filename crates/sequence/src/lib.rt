@@ -4,6 +4,8 @@ ghost use mathlib.Core.Path.{_≡_};
 ghost use mathlib.Core.Bool.{cond};
 ghost use Rattle.sequence.specs.Moves.{atAim, nextGears, doorsToGears, doorsHome, moveOf};
 
+mod numbers;
+
 // Where the doors stand.
 pub enum Doors {
     Closed,

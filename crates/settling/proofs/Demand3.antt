@@ -1,5 +1,5 @@
--- Demand 3 over the controller's own step and real samples. An accepted sample is a step of the core on what the votes say, and a
--- voted handle that stays is an aim that stays: of the votes nothing else is used.
+-- Demand 3 over the controller's own step and real samples, from a fresh start or a taken image (request K3). An accepted sample is a
+-- step of the core on what the votes say, and a voted handle that stays is an aim that stays: of the votes nothing else is used.
 -- Assumes nothing.
 use mathlib.Core.Bool.{Bool, true, false, not, Bool·beq}
 use mathlib.Core.List.{List, [], _∷_}
@@ -139,7 +139,7 @@ module _ (s : State) (reached : Reached s) (down : Bool) (first : Row) (rest : L
 -- ---- Demand 3
 
 -- "From any reached state, with the voted handle held still, within 24,796 ms either red is latched or the doors are closed and the
--- gears stand where the handle asks, whatever the sensors say."
+-- gears stand where the handle asks, whatever the sensors say." Reached is from a fresh start or a taken image.
 pub demand-3 :
     (s : State) →
     Reached s →

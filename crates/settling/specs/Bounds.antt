@@ -1,5 +1,5 @@
 -- Demand 3: "From any reached state, with the voted handle held still, within 24,796 ms either red is latched or the doors are
--- closed and the gears stand where the handle asks, whatever the sensors say."
+-- closed and the gears stand where the handle asks, whatever the sensors say." Request K3: reached from a fresh start or a taken image.
 -- Assumes nothing.
 use mathlib.Core.Bool.{Bool, _&&_, _||_}
 use Prim.Native.Nat.{ℕ, _+_, _*_}

@@ -1,5 +1,5 @@
--- A run of samples through the controller's own step, with the voted handle held still. A run is a list of any length: what holds
--- at the end of every run holds at every sample of each.
+-- A run of samples through the controller's own step, with the voted handle held still, from any state reached from a fresh start or a
+-- taken image. A run is a list of any length: what holds at the end of every run holds at every sample of each.
 -- Assumes nothing.
 use mathlib.Core.Bool.{Bool, true, _&&_, Bool·beq}
 use mathlib.Core.List.{List, [], _∷_}

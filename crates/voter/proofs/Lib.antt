@@ -1,3 +1,4 @@
 pub mod Laws
+pub mod Numbering
 pub mod Once
 pub mod Worked

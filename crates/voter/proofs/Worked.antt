@@ -3,8 +3,9 @@
 use mathlib.Core.Path.{refl}
 use Rattle.common.specs.Case.{AllAsWanted}
 use Rattle.voter.specs.Voting.{voted, votedBy, ofThree, ofTwo, freshWith, valueOf}
-use Rattle.voter.specs.Cases.{voterCases, shown, afterP1, channelsNumber}
+use Rattle.voter.specs.Numbers.{numberOf}
+use Rattle.voter.specs.Cases.{voterCases, shown, afterP1}
 
 pub p1-to-p3 : AllAsWanted voterCases
-unfolding voterCases shown afterP1 channelsNumber voted votedBy ofThree ofTwo freshWith valueOf
+unfolding voterCases shown afterP1 numberOf voted votedBy ofThree ofTwo freshWith valueOf
 p1-to-p3 = refl

@@ -4,22 +4,13 @@ use Prim.Native.Nat.{ℕ}
 use mathlib.Core.Bool.{Bool, true, false}
 use mathlib.Core.List.{List, [], _∷_}
 use Rattle.common.specs.Case.{Case, bit}
-use Rattle.voter.specs.Voting.{voted, votedBy, ofThree, ofTwo, freshWith, valueOf}
-use Rattle.voter.specs.declared.Channels.{Channels}
-use Rattle.voter.specs.declared.Channels.the-variants.{All, Without1, Without2, Without3, Nothing}
+use Rattle.voter.specs.Voting.{voted, freshWith, valueOf}
+use Rattle.voter.specs.Numbers.{numberOf}
 use Rattle.voter.specs.declared.Voter.{Voter}
-
--- A sensor's channels as a number: 0 all valid, 1 to 3 that channel struck, 4 invalid.
-unfoldable pub channelsNumber : Channels → ℕ
-channelsNumber All = 0
-channelsNumber Without1 = 1
-channelsNumber Without2 = 2
-channelsNumber Without3 = 3
-channelsNumber Nothing = 4
 
 -- A sensor shown by its value and its channels' number.
 unfoldable pub shown : Voter → List ℕ
-shown v = bit (valueOf v) ∷ channelsNumber (v .channels) ∷ []
+shown v = bit (valueOf v) ∷ numberOf v ∷ []
 
 -- A fresh vote 1,1,0, whatever was held.
 unfoldable pub afterP1 : Bool → Voter

@@ -1,2 +1,3 @@
 pub mod Voting
+pub mod Numbers
 pub mod Cases

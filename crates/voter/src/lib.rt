@@ -4,6 +4,8 @@
 ghost use mathlib.Core.Path.{_≡_};
 ghost use Rattle.voter.specs.Voting.{ofThree, ofTwo, voted, freshWith, valueOf, isInvalid};
 
+mod numbers;
+
 // Which channels still count; `Nothing` for an invalid sensor.
 pub enum Channels {
     All,

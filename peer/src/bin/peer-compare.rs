@@ -1,13 +1,19 @@
-//! `peer-compare SEED COUNT REPLAY [WAVES [SHEET]] [--stdout-only] [--no-waves] [--no-sheet]`: the
-//! traces of seeds SEED, SEED+1, .. over all kinds in turn, through REPLAY and WAVES and through the
-//! peer, byte for byte; the dump of each and one more of each seed through SHEET and the peer.
+//! `peer-compare SEED COUNT REPLAY [WAVES [SHEET [HANDOVER]]] [--stdout-only] [--no-waves] [--no-sheet]
+//! [--no-handover]`: the traces of seeds SEED, SEED+1, .. over all kinds in turn, through REPLAY and WAVES
+//! and through the peer, byte for byte; the dump of each and one more of each seed through SHEET and the
+//! peer; the image of each, what goes on from it and one more image of each seed through HANDOVER and the
+//! peer.
 use peer::damage::{dump, DUMP_KINDS};
 use peer::dump::{sheet_bytes, waves_bytes};
 use peer::gen::{trace, KINDS};
+use peer::handover::{handover_bytes, Said as Line, Task};
+use peer::image::{layout, BYTES};
+use peer::image_gen::{image, second_trace, IMAGE_KINDS};
 use peer::rules::Rules;
 use peer::trace::replay_bytes;
+use std::collections::HashMap;
 use std::io::{Read, Write};
-use std::path::Path;
+use std::path::{Path, PathBuf};
 use std::process::{Command, ExitCode, Stdio};
 
 struct Ran {
@@ -16,9 +22,10 @@ struct Ran {
     status: Option<i32>,
 }
 
-fn run(program: &str, input: &[u8]) -> std::io::Result<Ran> {
-    let mut child =
-        Command::new(program).stdin(Stdio::piped()).stdout(Stdio::piped()).stderr(Stdio::piped()).spawn()?;
+fn run(program: &str, args: &[String], input: &[u8]) -> std::io::Result<Ran> {
+    let mut command = Command::new(program);
+    command.args(args).stdin(Stdio::piped()).stdout(Stdio::piped()).stderr(Stdio::piped());
+    let mut child = command.spawn()?;
     let (mut stdin, mut stdout) = (child.stdin.take().unwrap(), child.stdout.take().unwrap());
     let mut stderr = child.stderr.take().unwrap();
     let (mut out, mut err) = (Vec::new(), Vec::new());
@@ -32,24 +39,40 @@ fn run(program: &str, input: &[u8]) -> std::io::Result<Ran> {
 }
 
 /// What standard error must hold.
-#[derive(Clone, Copy)]
+#[derive(Clone)]
 enum Said {
     Anything,
     Lines(usize),
     Something(bool),
+    /// Nothing, or one line of `handover` with this in it.
+    Handover(Option<String>),
+}
+
+/// The first difference of two outputs: of images by item, of all else by line.
+fn first_difference(theirs: &[u8], ours: &[u8]) -> String {
+    if ours.len() == BYTES && theirs.len() == BYTES {
+        let place = (0..BYTES).step_by(4).find(|&n| theirs[n..n + 4] != ours[n..n + 4]).unwrap_or(0);
+        let number = |image: &[u8]| image[place..place + 4].iter().fold(0u32, |n, &b| n << 8 | u32::from(b));
+        let item = layout(&Rules::default())[place / 4];
+        let (theirs, ours) = (number(theirs), number(ours));
+        return format!("item {}, {item:?}\n  program: {theirs}\n  peer:    {ours}", place / 4 + 1);
+    }
+    let (mut theirs, mut ours) = (theirs.split(|&b| b == b'\n'), ours.split(|&b| b == b'\n'));
+    let mut line = 1;
+    loop {
+        let (a, b) = (theirs.next(), ours.next());
+        if a != b {
+            let show = |l: Option<&[u8]>| l.map_or("(nothing)".into(), |l| l.escape_ascii().to_string());
+            return format!("output line {line}\n  program: {}\n  peer:    {}", show(a), show(b));
+        }
+        line += 1;
+    }
 }
 
 /// What differs, or nothing.
-fn differs(ran: &Ran, wanted: &[u8], said: Said) -> Option<String> {
+fn differs(ran: &Ran, wanted: &[u8], said: &Said) -> Option<String> {
     if ran.out != wanted {
-        let (mut theirs, mut ours) = (ran.out.split(|&b| b == b'\n'), wanted.split(|&b| b == b'\n'));
-        for line in 1.. {
-            let (a, b) = (theirs.next(), ours.next());
-            if a != b {
-                let show = |l: Option<&[u8]>| l.map_or("(nothing)".into(), |l| l.escape_ascii().to_string());
-                return Some(format!("output line {line}\n  program: {}\n  peer:    {}", show(a), show(b)));
-            }
-        }
+        return Some(first_difference(&ran.out, wanted));
     }
     if ran.status != Some(0) {
         return Some(format!("status {:?}, not 0", ran.status));
@@ -57,11 +80,20 @@ fn differs(ran: &Ran, wanted: &[u8], said: Said) -> Option<String> {
     let lines = ran.err.iter().filter(|&&b| b == b'\n').count();
     let text = ran.err.escape_ascii();
     match said {
-        Said::Lines(count) if lines != count => {
+        Said::Lines(count) if lines != *count => {
             Some(format!("{lines} lines on standard error, not {count}: {text}"))
         }
-        Said::Something(true) if lines == 0 => Some("no line on standard error".into()),
-        Said::Something(false) if !ran.err.is_empty() => Some(format!("on standard error: {text}")),
+        Said::Something(true) | Said::Handover(Some(_)) if lines == 0 => {
+            Some("no line on standard error".into())
+        }
+        Said::Something(false) | Said::Handover(None) if !ran.err.is_empty() => {
+            Some(format!("on standard error: {text}"))
+        }
+        Said::Handover(Some(holds)) => {
+            let line = String::from_utf8_lossy(&ran.err);
+            let plain = lines == 1 && line.starts_with("handover: ") && line.contains(&holds[..]);
+            (!plain).then(|| format!("not one line `handover: ..{holds}..` on standard error: {text}"))
+        }
         _ => None,
     }
 }
@@ -71,21 +103,24 @@ struct Programs {
     replay: String,
     waves: Option<String>,
     sheet: Option<String>,
+    handover: Option<String>,
     stdout_only: bool,
+    /// Where images are put for `handover`.
+    folder: PathBuf,
 }
 
-const USAGE: &str =
-    "usage: compare SEED COUNT [REPLAY [WAVES [SHEET]]] [--stdout-only] [--no-waves] [--no-sheet]";
+const USAGE: &str = "usage: compare SEED COUNT [REPLAY [WAVES [SHEET [HANDOVER]]]] \
+[--stdout-only] [--no-waves] [--no-sheet] [--no-handover]";
 
 fn arguments() -> Result<(u64, u64, Programs), String> {
     let (flags, args): (Vec<String>, Vec<String>) =
         std::env::args().skip(1).partition(|a| a.starts_with("--"));
-    let known = ["--stdout-only", "--no-waves", "--no-sheet"];
+    let known = ["--stdout-only", "--no-waves", "--no-sheet", "--no-handover"];
     let number = |n: usize| args.get(n).and_then(|a: &String| a.parse::<u64>().ok());
     let (Some(seed), Some(count), Some(replay)) = (number(0), number(1), args.get(2)) else {
         return Err(USAGE.into());
     };
-    if args.len() > 5 || flags.iter().any(|f| !known.contains(&&f[..])) {
+    if args.len() > 6 || flags.iter().any(|f| !known.contains(&&f[..])) {
         return Err(USAGE.into());
     }
     let flag = |name: &str| flags.iter().any(|f| f == name);
@@ -102,14 +137,24 @@ fn arguments() -> Result<(u64, u64, Programs), String> {
     };
     let waves = program(3, "waves", "--no-waves")?;
     let sheet = program(4, "sheet", "--no-sheet")?;
-    let replay = replay.clone();
-    Ok((seed, count, Programs { replay, waves, sheet, stdout_only: flag("--stdout-only") }))
+    let handover = program(5, "handover", "--no-handover")?;
+    let folder = std::env::temp_dir().join(format!("peer-compare-{}", std::process::id()));
+    let (replay, stdout_only) = (replay.clone(), flag("--stdout-only"));
+    Ok((seed, count, Programs { replay, waves, sheet, handover, stdout_only, folder }))
 }
 
 /// What went wrong: a difference with the way to repeat it, or a program that cannot be run.
 enum Wrong {
     Different(String),
     NotRun(String),
+}
+
+/// What is counted together; a number is that of a kind.
+#[derive(Clone, Copy, PartialEq, Eq, Hash)]
+#[rustfmt::skip]
+enum Sort {
+    Replay(usize), Waves, SheetOfRun, Sheet(usize),
+    Save, ShowOfRun, Resume, SaveFrom, Show(usize),
 }
 
 #[derive(Clone, Copy, Default)]
@@ -120,30 +165,26 @@ struct Tally {
 }
 
 impl Tally {
-    fn add(&mut self, lines: u64, refused: bool) {
-        *self = Tally {
-            count: self.count + 1,
-            lines: self.lines + lines,
-            refused: self.refused + u64::from(refused),
-        };
+    fn add(&mut self, other: Tally) {
+        self.count += other.count;
+        self.lines += other.lines;
+        self.refused += other.refused;
     }
 }
+
+type Tallies = HashMap<Sort, Tally>;
 
 fn lines(text: &[u8]) -> u64 {
     text.iter().filter(|&&b| b == b'\n').count() as u64
 }
 
-#[derive(Default)]
-struct Tallies {
-    replay: [Tally; KINDS.len()],
-    waves: Tally,
-    sheet_of_run: Tally,
-    sheet: [Tally; DUMP_KINDS.len()],
-}
-
 /// One input for one program, and what the peer has for it.
 struct Job<'a> {
+    sort: Sort,
     program: &'a str,
+    /// The arguments, and as they are told to a person.
+    args: Vec<String>,
+    told: &'static str,
     peer: &'static str,
     input: Vec<u8>,
     wanted: Vec<u8>,
@@ -156,74 +197,188 @@ struct Job<'a> {
 
 impl Job<'_> {
     fn compare(&self, stdout_only: bool) -> Result<(), Wrong> {
-        let Job { program, peer, file, make, .. } = self;
-        let said = if stdout_only { Said::Anything } else { self.said };
-        let ran =
-            run(program, &self.input).map_err(|e| Wrong::NotRun(format!("{program} cannot be run: {e}")))?;
+        let Job { program, told, peer, file, make, .. } = self;
+        let said = if stdout_only { &Said::Anything } else { &self.said };
+        let ran = run(program, &self.args, &self.input)
+            .map_err(|e| Wrong::NotRun(format!("{program} cannot be run: {e}")))?;
         let Some(what) = differs(&ran, &self.wanted, said) else { return Ok(()) };
         Err(Wrong::Different(format!(
-            "{program}: {what}
+            "{program}{told}: {what}
 to repeat it, in peer/:
-{make}  target/release/{peer} < {file} > peer.out
-  {program} < {file} > program.out
+{make}  target/release/{peer}{told} < {file} > peer.out
+  {program}{told} < {file} > program.out
   cmp program.out peer.out"
         )))
     }
+
+    fn tally(&self) -> Tally {
+        // The header of replay and of sheet is not a row.
+        let header = match self.sort {
+            Sort::Replay(_) | Sort::SheetOfRun | Sort::Sheet(_) | Sort::Resume => 1,
+            _ => 0,
+        };
+        let lines = lines(&self.wanted).saturating_sub(header);
+        Tally { count: 1, lines, refused: u64::from(self.refused) }
+    }
+}
+
+fn kind_of(seed: u64, kinds: &[&str]) -> usize {
+    (seed % kinds.len() as u64) as usize
+}
+
+/// The trace of a seed, and how it is made.
+struct Run {
+    seed: u64,
+    kind: usize,
+    trace: Vec<u8>,
+    make: String,
 }
 
 impl Programs {
     /// Everything of one seed.
     fn seed(&self, seed: u64, tallies: &mut Tallies) -> Result<(), Wrong> {
-        let rules = Rules::default();
-        let kind = (seed % KINDS.len() as u64) as usize;
-        let input = trace(seed, KINDS[kind], None).unwrap();
+        let kind = kind_of(seed, &KINDS);
+        let trace = trace(seed, KINDS[kind], None).unwrap();
         let make = format!("  target/release/peer-gen {seed} {} > trace.in\n", KINDS[kind]);
-        let (run_dump, ended) = waves_bytes(&rules, &input);
-        let refused = ended.is_some();
-        let said = Said::Lines(usize::from(refused));
-        let mut jobs = Vec::new();
-        let mut tally: Vec<&mut Tally> = Vec::new();
-
-        let wanted = replay_bytes(&rules, &input).0;
-        let (program, peer, file) = (&self.replay[..], "peer-replay", "trace.in");
-        jobs.push(Job {
-            program,
-            peer,
-            wanted,
-            said,
-            refused,
-            file,
-            make: make.clone(),
-            input: input.clone(),
-        });
-        tally.push(&mut tallies.replay[kind]);
-        if let Some(program) = &self.waves {
-            let (peer, wanted) = ("peer-waves", run_dump.clone());
-            jobs.push(Job { program, peer, wanted, said, refused, file, make: make.clone(), input });
-            tally.push(&mut tallies.waves);
-        }
-        if let Some(program) = &self.sheet {
-            let kind = (seed % DUMP_KINDS.len() as u64) as usize;
-            let made = dump(seed, DUMP_KINDS[kind]).unwrap();
-            let make_made =
-                format!("  target/release/peer-dump-gen {seed} {} > dump.vcd\n", DUMP_KINDS[kind]);
-            let make_run = make + "  target/release/peer-waves < trace.in > dump.vcd\n";
-            for (input, make) in [(run_dump, make_run), (made, make_made)] {
-                let (wanted, refused) = sheet_bytes(&rules, &input);
-                let refused = refused.is_some();
-                let (said, peer, file) = (Said::Something(refused), "peer-sheet", "dump.vcd");
-                jobs.push(Job { program, peer, wanted, said, refused, file, make, input });
-            }
-            tally.push(&mut tallies.sheet_of_run);
-            tally.push(&mut tallies.sheet[kind]);
-        }
-        jobs.iter().try_for_each(|job| job.compare(self.stdout_only))?;
-        for (job, tally) in jobs.iter().zip(tally) {
-            // The header of replay and of sheet is not a row.
-            let header = u64::from(job.peer != "peer-waves");
-            tally.add(lines(&job.wanted) - header, job.refused);
+        let run = Run { seed, kind, trace, make };
+        let mut jobs = self.of_trace(&run);
+        jobs.extend(self.of_images(&run)?);
+        for job in jobs {
+            job.compare(self.stdout_only)?;
+            tallies.entry(job.sort).or_default().add(job.tally());
         }
         Ok(())
+    }
+
+    /// REPLAY, WAVES and SHEET.
+    fn of_trace(&self, run: &Run) -> Vec<Job<'_>> {
+        let rules = Rules::default();
+        let (run_dump, ended) = waves_bytes(&rules, &run.trace);
+        let refused = ended.is_some();
+        let job = |program, peer, sort, wanted| Job {
+            sort,
+            program,
+            args: Vec::new(),
+            told: "",
+            peer,
+            input: run.trace.clone(),
+            wanted,
+            said: Said::Lines(usize::from(refused)),
+            refused,
+            make: run.make.clone(),
+            file: "trace.in",
+        };
+        let rows = replay_bytes(&rules, &run.trace).0;
+        let mut jobs = vec![job(&self.replay[..], "peer-replay", Sort::Replay(run.kind), rows)];
+        if let Some(program) = &self.waves {
+            jobs.push(job(program, "peer-waves", Sort::Waves, run_dump.clone()));
+        }
+        let Some(program) = &self.sheet else { return jobs };
+        let kind = kind_of(run.seed, &DUMP_KINDS);
+        let made = dump(run.seed, DUMP_KINDS[kind]).unwrap();
+        let make_made =
+            format!("  target/release/peer-dump-gen {} {} > dump.vcd\n", run.seed, DUMP_KINDS[kind]);
+        let make_run = run.make.clone() + "  target/release/peer-waves < trace.in > dump.vcd\n";
+        for (sort, input, make) in
+            [(Sort::SheetOfRun, run_dump, make_run), (Sort::Sheet(kind), made, make_made)]
+        {
+            let (wanted, refused) = sheet_bytes(&rules, &input);
+            let refused = refused.is_some();
+            let job = job(program, "peer-sheet", sort, wanted);
+            jobs.push(Job { input, make, refused, said: Said::Something(refused), file: "dump.vcd", ..job });
+        }
+        jobs
+    }
+
+    /// HANDOVER.
+    fn of_images(&self, run: &Run) -> Result<Vec<Job<'_>>, Wrong> {
+        let Some(program) = &self.handover else { return Ok(Vec::new()) };
+        let rules = Rules::default();
+        let saved = handover_bytes(&rules, Task::Save, &run.trace).0;
+        let second = second_trace(run.seed, &saved);
+        let kind = kind_of(run.seed, &IMAGE_KINDS);
+        let made = image(run.seed, IMAGE_KINDS[kind]).unwrap();
+        let [saved_at, made_at] = [self.put("saved.img", &saved)?, self.put("made.img", &made)?];
+
+        let job = |sort, task, told: &'static str, at: Option<&String>, input: &[u8], make: String| {
+            let (wanted, said) = handover_bytes(&rules, task, input);
+            // What is on standard error need only say which refusal an image got.
+            let holds = said.as_ref().map(|line| match line {
+                Line::Untaken(untaken) => format!("refusal {}", untaken.refusal),
+                _ => String::new(),
+            });
+            let word = told.split_whitespace().next().map(String::from);
+            let args = word.into_iter().chain(at.cloned()).collect();
+            let (refused, said) = (said.is_some(), Said::Handover(holds));
+            let (peer, file) = ("peer-handover", if input.is_empty() { "/dev/null" } else { "trace.in" });
+            Job { sort, program, args, told, peer, input: input.to_vec(), wanted, said, refused, make, file }
+        };
+        let seed = run.seed;
+        let make_run = run.make.clone() + "  target/release/peer-handover save < trace.in > image.img\n";
+        let make_second = format!("{make_run}  target/release/peer-gen {seed} onward image.img > trace.in\n");
+        let make_made = format!("  target/release/peer-image-gen {seed} {} > image.img\n", IMAGE_KINDS[kind]);
+        let at = Some(&saved_at);
+        Ok(vec![
+            job(Sort::Save, Task::Save, " save", None, &run.trace, run.make.clone()),
+            job(Sort::ShowOfRun, Task::Show(&saved), " show image.img", at, b"", make_run),
+            job(Sort::Resume, Task::Resume(&saved), " resume image.img", at, &second, make_second.clone()),
+            job(Sort::SaveFrom, Task::SaveFrom(&saved), " save image.img", at, &second, make_second),
+            job(Sort::Show(kind), Task::Show(&made), " show image.img", Some(&made_at), b"", make_made),
+        ])
+    }
+
+    /// Puts an image where a program finds it.
+    fn put(&self, name: &str, image: &[u8]) -> Result<String, Wrong> {
+        let path = self.folder.join(name);
+        let put = std::fs::create_dir_all(&self.folder).and_then(|()| std::fs::write(&path, image));
+        put.map_err(|e| Wrong::NotRun(format!("{}: {e}", path.display())))?;
+        Ok(path.to_string_lossy().into_owned())
+    }
+}
+
+/// What was compared, a line for each sort.
+fn show(programs: &Programs, tallies: &Tallies) {
+    let of = |sort| tallies.get(&sort).copied().unwrap_or_default();
+    let mut all = Tally::default();
+    for (kind, name) in KINDS.iter().enumerate() {
+        let t = of(Sort::Replay(kind));
+        println!("{name:12} {:7} traces {:10} rows  equal", t.count, t.lines);
+        all.add(t);
+    }
+    println!("{:12} {:7} traces {:10} rows  equal", "all", all.count, all.lines);
+    match programs.waves {
+        Some(_) => {
+            let t = of(Sort::Waves);
+            println!("{:12} {:7} dumps  {:10} lines equal", "waves", t.count, t.lines);
+        }
+        None => println!("waves        left out"),
+    }
+    if programs.sheet.is_some() {
+        let kinds = DUMP_KINDS.iter().enumerate().map(|(kind, name)| (*name, Sort::Sheet(kind)));
+        for (name, sort) in [("of runs", Sort::SheetOfRun)].into_iter().chain(kinds) {
+            let (name, t) = (format!("sheet: {name}"), of(sort));
+            println!("{name:15} {:4} dumps  {:10} rows  equal, {} got 9", t.count, t.lines, t.refused);
+        }
+    } else {
+        println!("sheet        left out");
+    }
+    if programs.handover.is_none() {
+        println!("handover     left out");
+        return;
+    }
+    for (name, sort, what) in [
+        ("save", Sort::Save, "ended by a refusal or without row 0"),
+        ("save IMAGE", Sort::SaveFrom, "so, or the image not taken"),
+    ] {
+        let t = of(sort);
+        println!("{name:15} {:4} images equal, {} {what}", t.count, t.refused);
+    }
+    let t = of(Sort::Resume);
+    println!("{:15} {:4} traces {:10} rows  equal", "resume", t.count, t.lines);
+    let kinds = IMAGE_KINDS.iter().enumerate().map(|(kind, name)| (*name, Sort::Show(kind)));
+    for (name, sort) in [("of runs", Sort::ShowOfRun)].into_iter().chain(kinds) {
+        let (name, t) = (format!("show: {name}"), of(sort));
+        println!("{name:15} {:4} images equal, {} got 10 or 11", t.count, t.refused);
     }
 }
 
@@ -236,45 +391,25 @@ fn main() -> ExitCode {
         }
     };
     let mut tallies = Tallies::default();
-    for seed in seed..seed + count {
-        match programs.seed(seed, &mut tallies) {
-            Ok(()) => {}
-            Err(Wrong::Different(what)) => {
-                println!("DIFFERENT: seed {seed}: {what}");
-                return ExitCode::FAILURE;
-            }
-            Err(Wrong::NotRun(what)) => {
-                eprintln!("{what}");
-                return ExitCode::from(2);
-            }
+    let mut compare = || {
+        (seed..seed + count)
+            .try_for_each(|seed| programs.seed(seed, &mut tallies).map_err(|wrong| (seed, wrong)))
+    };
+    let compared = compare();
+    // It is there only if an image was put into it.
+    let _ = std::fs::remove_dir_all(&programs.folder);
+    match compared {
+        Ok(()) => {
+            show(&programs, &tallies);
+            ExitCode::SUCCESS
+        }
+        Err((seed, Wrong::Different(what))) => {
+            println!("DIFFERENT: seed {seed}: {what}");
+            ExitCode::FAILURE
+        }
+        Err((_, Wrong::NotRun(what))) => {
+            eprintln!("{what}");
+            ExitCode::from(2)
         }
     }
-    let show = |name: &str, what: &str, t: Tally| {
-        println!("{name:12} {:7} {what:6} {:10} rows  equal", t.count, t.lines);
-    };
-    KINDS.iter().zip(tallies.replay).for_each(|(kind, tally)| show(kind, "traces", tally));
-    let all = tallies.replay.iter().fold(Tally::default(), |a, t| Tally {
-        count: a.count + t.count,
-        lines: a.lines + t.lines,
-        refused: a.refused + t.refused,
-    });
-    show("all", "traces", all);
-    match programs.waves {
-        Some(_) => {
-            let t = tallies.waves;
-            println!("{:12} {:7} dumps  {:10} lines equal", "waves", t.count, t.lines);
-        }
-        None => println!("waves        left out"),
-    }
-    if programs.sheet.is_none() {
-        println!("sheet        left out");
-        return ExitCode::SUCCESS;
-    }
-    let show = |name: &str, t: Tally| {
-        let name = format!("sheet: {name}");
-        println!("{name:15} {:4} dumps  {:10} rows  equal, {} got 9", t.count, t.lines, t.refused);
-    };
-    show("of runs", tallies.sheet_of_run);
-    DUMP_KINDS.iter().zip(tallies.sheet).for_each(|(kind, tally)| show(kind, tally));
-    ExitCode::SUCCESS
 }

@@ -1,33 +1,13 @@
 //! `peer-dump-vectors DIR [DATA]`: writes the stored vectors of request K2 into DIR. NAME.vcd is the dump
 //! of the trace NAME.in, dump_NAME.vcd a dump and dump_NAME.csv its sheet; DUMPS.md says why each is there.
 //! A trace that is not in DIR is taken from DATA, or is the peer's own, and is written too, with its output.
+use peer::cli::{store_in, Wrote};
 use peer::dump::{sheet_bytes, waves_bytes};
 use peer::dump_vectors::{dump_traces, dumps};
 use peer::rules::Rules;
 use peer::trace::replay_bytes;
 use std::path::Path;
 use std::process::ExitCode;
-
-/// What was written.
-#[derive(Default)]
-struct Wrote {
-    files: usize,
-    bytes: usize,
-    changed: usize,
-}
-
-impl Wrote {
-    /// A file that has these bytes already is left alone.
-    fn put(&mut self, path: &Path, bytes: &[u8]) -> std::io::Result<()> {
-        self.files += 1;
-        self.bytes += bytes.len();
-        if std::fs::read(path).is_ok_and(|old| old == bytes) {
-            return Ok(());
-        }
-        self.changed += 1;
-        std::fs::write(path, bytes)
-    }
-}
 
 fn store(dir: &Path, data: Option<&Path>) -> std::io::Result<Wrote> {
     let rules = Rules::default();
@@ -60,23 +40,5 @@ fn store(dir: &Path, data: Option<&Path>) -> std::io::Result<Wrote> {
 }
 
 fn main() -> ExitCode {
-    let args: Vec<String> = std::env::args().skip(1).collect();
-    let (dir, data) = match &args[..] {
-        [dir] => (dir, None),
-        [dir, data] => (dir, Some(Path::new(data))),
-        _ => {
-            eprintln!("usage: peer-dump-vectors DIR [DATA]");
-            return ExitCode::from(2);
-        }
-    };
-    match store(Path::new(dir), data) {
-        Ok(Wrote { files, bytes, changed }) => {
-            println!("{files} files, {bytes} bytes, {changed} of them new or changed");
-            ExitCode::SUCCESS
-        }
-        Err(e) => {
-            eprintln!("{}: {e}", args.join(", "));
-            ExitCode::FAILURE
-        }
-    }
+    store_in("peer-dump-vectors", store)
 }

@@ -2,11 +2,16 @@
 //! `peer-faults --seeds SEED COUNT`: how many of COUNT random traces each fault changes.
 //! `peer-faults --dumps DIR`, `peer-faults --dump-seeds SEED COUNT`: the same for request K2, a table for
 //! the writer of dumps and one for the reader.
+//! `peer-faults --images DIR`, `peer-faults --image-seeds SEED COUNT`: the same for request K3, one table.
 use peer::damage::{dump, DUMP_KINDS};
 use peer::dump::{moments, sheet_bytes, waves_bytes, write};
 use peer::dump_vectors::{stored_dumps, Vector};
 use peer::gen::{trace, KINDS};
-use peer::rules::{faults, sheet_faults, unseen, wave_faults, Rules};
+use peer::handover::{handover_bytes, shown_or_refused, Task};
+use peer::image::BYTES;
+use peer::image_gen::{image, second_trace, IMAGE_KINDS};
+use peer::image_vectors::{stored_images, Folder};
+use peer::rules::{faults, image_faults, sheet_faults, unseen, unseen_in_images, wave_faults, Rules};
 use peer::trace::replay_bytes;
 use std::path::Path;
 use std::process::ExitCode;
@@ -15,7 +20,8 @@ fn stored(dir: &str) -> std::io::Result<Vec<Vector>> {
     let mut all = Vec::new();
     for entry in std::fs::read_dir(dir)? {
         let path = entry?.path();
-        if path.extension().is_some_and(|e| e == "in") {
+        // A trace that goes on from an image has no output of its own.
+        if path.extension().is_some_and(|e| e == "in") && !path.with_extension("start").exists() {
             let name = path.file_stem().unwrap_or_default().to_string_lossy().into_owned();
             all.push((name, std::fs::read(&path)?, std::fs::read(path.with_extension("out"))?));
         }
@@ -34,6 +40,22 @@ fn waves(r: &Rules, trace: &[u8]) -> Vec<u8> {
 
 fn sheet(r: &Rules, dump: &[u8]) -> Vec<u8> {
     sheet_bytes(r, dump).0
+}
+
+fn save(r: &Rules, trace: &[u8]) -> Vec<u8> {
+    handover_bytes(r, Task::Save, trace).0
+}
+
+/// An image, and then a trace that goes on from it.
+fn resume(r: &Rules, both: &[u8]) -> Vec<u8> {
+    let (image, trace) = both.split_at(BYTES.min(both.len()));
+    handover_bytes(r, Task::Resume(image), trace).0
+}
+
+/// The same, and then the image that is saved of it.
+fn go_on(r: &Rules, both: &[u8]) -> Vec<u8> {
+    let (image, trace) = both.split_at(BYTES.min(both.len()));
+    [resume(r, both), handover_bytes(r, Task::SaveFrom(image), trace).0].concat()
 }
 
 /// The values of a good dump, written again.
@@ -128,6 +150,39 @@ fn dumps(traces: Vec<Vector>, good: Vec<Vector>, dumps: Vec<Vector>) -> ExitCode
     status(wrong + of_writer + of_reader)
 }
 
+/// Traces with their images, images and traces with what comes of them, images with their words.
+fn images(all: Folder, resume: fn(&Rules, &[u8]) -> Vec<u8>) -> ExitCode {
+    let onwards =
+        all.onwards.into_iter().map(|(name, image, trace, rows)| (name, [image, trace].concat(), rows));
+    let suites = [
+        Suite { program: save, vectors: all.traces },
+        Suite { program: resume, vectors: onwards.collect() },
+        Suite { program: shown_or_refused, vectors: all.images },
+    ];
+    let mut wrong: usize = suites.iter().map(Suite::wrong).sum();
+    let [saved, resumed, shown] = [0, 1, 2].map(|n| suites[n].vectors.len());
+    println!("| fault | first changed | of {saved} saved | of {resumed} resumed | of {shown} shown |");
+    println!("|---|---|---|---|---|");
+    let mut missed = 0;
+    for (name, rules) in image_faults() {
+        let changed = [0, 1, 2].map(|n| suites[n].changed(&rules));
+        let [saved, resumed, shown] = changed.map(|c| c.map_or(0, |c| c.1));
+        let first = changed.into_iter().flatten().next().map_or("**none**", |c| c.0);
+        println!("| {name} | {first} | {saved} | {resumed} | {shown} |");
+        missed += usize::from(saved + resumed + shown == 0);
+    }
+    let hidden: Vec<String> = unseen_in_images().into_iter().map(|f| f.0).collect();
+    for (name, rules) in unseen_in_images() {
+        if let Some((first, _)) = suites.iter().find_map(|s| s.changed(&rules)) {
+            eprintln!("{name} is held to be unseen, yet {first} shows it");
+            wrong += 1;
+        }
+    }
+    println!("\nCannot be seen in images: {}.", hidden.join(", "));
+    println!("{} faults, {missed} caught by none.", image_faults().len());
+    status(missed + wrong)
+}
+
 fn kind_of(seed: u64, kinds: &[&'static str]) -> &'static str {
     kinds[(seed % kinds.len() as u64) as usize]
 }
@@ -161,6 +216,26 @@ fn seeded_dumps(seeds: std::ops::Range<u64>) -> ExitCode {
     dumps(runs, good, made)
 }
 
+/// The traces and images that `compare` would make.
+fn seeded_images(seeds: std::ops::Range<u64>) -> ExitCode {
+    let rules = Rules::default();
+    let mut all = Folder::default();
+    for seed in seeds {
+        let run = seeded(seed, save);
+        let (name, saved) = (run.0.clone(), run.2.clone());
+        let onward = second_trace(seed, &saved);
+        let wanted = go_on(&rules, &[&saved[..], &onward].concat());
+        all.onwards.push((format!("{name}, resumed"), saved.clone(), onward, wanted));
+        all.traces.push(run);
+        let kind = kind_of(seed, &IMAGE_KINDS);
+        for (name, image) in [(name, saved), (format!("{kind} {seed}"), image(seed, kind).unwrap())] {
+            let words = shown_or_refused(&rules, &image);
+            all.images.push((name, image, words));
+        }
+    }
+    images(all, go_on)
+}
+
 fn range(seed: &str, count: &str) -> std::ops::Range<u64> {
     let (seed, count): (u64, u64) = (seed.parse().unwrap_or(1), count.parse().unwrap_or(1));
     seed..seed + count
@@ -184,12 +259,17 @@ fn main() -> ExitCode {
             }
             Err(e) => unread(dir, e),
         },
+        ["--image-seeds", seed, count] => seeded_images(range(seed, count)),
+        ["--images", dir] => match stored_images(Path::new(dir)) {
+            Ok(all) => images(all, resume),
+            Err(e) => unread(dir, e),
+        },
         [dir] if !dir.starts_with("--") => match stored(dir) {
             Ok(all) => traces(all),
             Err(e) => unread(dir, e),
         },
         _ => {
-            eprintln!("usage: peer-faults DIR | --seeds SEED COUNT | --dumps DIR | --dump-seeds SEED COUNT");
+            eprintln!("usage: peer-faults [--dumps | --images] DIR | --seeds | --dump-seeds | --image-seeds SEED COUNT");
             ExitCode::from(2)
         }
     }

@@ -7,13 +7,11 @@ use Rattle.cases.proofs.outputs.goes_on.Statement.{statement}
 use Rattle.cases.proofs.outputs.goes_on.Tie as tie
 
 abbrev Inv-loop : tie.InvT-loop
-Inv-loop trace fd input₀ line₀ out₀ lesson₀ turns₀ input line out lesson turns = (length input ≡ length input₀) × (length line ≡ length line₀) × (length out ≡ length out₀)
+Inv-loop trace fd input₀ line₀ out₀ lesson₀ turns₀ input line out lesson turns =
+    (length input ≡ length input₀) × (length line ≡ length line₀) × (length out ≡ length out₀)
 
 abbrev μ-loop : tie.MeasureT-loop
 μ-loop trace fd input₀ line₀ out₀ lesson₀ turns₀ input line out lesson turns = turns
-
-new-requires : tie.Need-new-requires Inv-loop μ-loop
-new-requires c κs = search needs
 
 loop-holds : tie.Need-loop-holds Inv-loop μ-loop
 loop-holds c = search needs
@@ -60,7 +58,6 @@ goes-on-spec =
     (tie.spec
     Inv-loop
     μ-loop
-    new-requires
     loop-holds
     turn-requires
     same-length

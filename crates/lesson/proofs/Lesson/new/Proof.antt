@@ -1,16 +1,20 @@
--- `lesson::Lesson::new` meets its contract: nothing is read yet.
+-- `lesson::Lesson::new` meets its contract: nothing is read yet, and the controller is a fresh one.
 -- Assumes nothing.
+use mathlib.Core.Path.{ap, _∙_}
 use borrow.Author.Needs.{needs}
-use Rattle.lesson.specs.Parts.{newLesson}
+use Rattle.lesson.specs.Parts.{lessonFrom, newLesson}
 use Rattle.lesson.proofs.Lesson.new.Statement.{statement}
 use Rattle.lesson.proofs.Lesson.new.Tie as tie
 
-new-requires : tie.Need-new-requires
-new-requires c κs = search needs
+fresh-requires : tie.Need-fresh-requires
+fresh-requires c κs = search needs
+
+from-requires : tie.Need-from-requires
+from-requires c κs = search needs
 
 returns : tie.Need-returns
 unfolding newLesson
-returns c = simp (c .new .ensures)
+returns c = c .from .ensures ∙ ap lessonFrom (c .before .fresh .ensures)
 
 pub new-spec : {M : Type 1} → statement M
-new-spec = tie.close (tie.spec new-requires returns)
+new-spec = tie.close (tie.spec fresh-requires from-requires returns)

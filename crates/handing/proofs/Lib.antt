@@ -1,0 +1,4 @@
+pub mod Saving
+pub mod Law
+pub mod Worked
+mod Once

@@ -1,0 +1,13 @@
+-- No second answer meets the contract of a public function of this crate: the answer, and the buffer that is lent.
+-- Assumes nothing.
+use Prim.Native.Nat.{ℕ}
+use mathlib.Core.List.{List}
+use mathlib.Core.Path.{_∙_, sym}
+use denote.Ref.{now}
+use Rattle.common.specs.OneAnswer.{OneAnswerAnd}
+use Rattle.common.proofs.Pairs.{both}
+use Rattle.handing.proofs.save_last.Kinds as save-last-kinds
+use Rattle.handing.proofs.save_last.Reads as save-last-reads
+
+pub save-last-once : OneAnswerAnd 1 save-last-kinds.ps save-last-kinds.r save-last-reads.Post (List ℕ) (λ κs s. now (s .1 .0))
+save-last-once κs a x y s t p q = both (p ∙ sym q)

@@ -1,0 +1,30 @@
+-- The worked traces are saved as they should be: the rules compute.
+-- Assumes nothing.
+use mathlib.Core.Path.{refl}
+use Rattle.common.specs.Ascii.{joinedByCommas}
+use Rattle.common.specs.Case.{AllAsWanted}
+use Rattle.voter.specs.Numbers.{numberOf}
+use Rattle.controller.specs.Start.{startedAt}
+use Rattle.controller.proofs.Computing.{rules}
+use Rattle.image.specs.Xdr.{fourBytes, bytesOf}
+use Rattle.image.specs.Items.{sensorItems, orderItems, ordersItems, restItems, coreItems, itemsOf}
+use Rattle.image.specs.Images.{imageOf}
+use Rattle.lines.specs.Rows.{before, rowsOf}
+use Rattle.trace.specs.Numbers.{digitsFrom, numberOf as numberIn, tripleOf}
+use Rattle.trace.specs.Rows.{fieldsOf, triplesOf, formOf, inTurn, readRow}
+use Rattle.trace.specs.Header.{headerNames, headerText, sameText}
+use Rattle.reading.specs.Rows.{endsAt, headerRow, answerTo, shownRow, noSample, traceRow, rowOf, endOf}
+use Rattle.reading.specs.Whole.{readTo}
+use Rattle.lesson.specs.Cases.{ended, trace, rowsOfS}
+use Rattle.handing.specs.Handing.{imageLeft, savedOf}
+use Rattle.handing.specs.Cases.{imageOfS, saves, handingCases}
+
+pub as-worked : AllAsWanted handingCases
+unfolding
+    rules startedAt
+    numberOf fourBytes bytesOf sensorItems orderItems ordersItems restItems coreItems itemsOf imageOf
+    before rowsOf digitsFrom numberIn tripleOf fieldsOf triplesOf formOf inTurn readRow headerNames headerText sameText joinedByCommas
+    endsAt headerRow answerTo shownRow noSample traceRow rowOf endOf readTo
+    ended trace rowsOfS
+    imageLeft savedOf imageOfS saves handingCases
+as-worked = refl

@@ -1,0 +1,43 @@
+-- Request K3, "Hand a lesson to another laptop": a whole run of saving, from all bytes of a trace to the image of its last state.
+-- Assumes nothing.
+use Prim.Native.Nat.{ℕ}
+use mathlib.Core.Bool.{cond}
+use mathlib.Core.List.{List, []}
+use lib.Dec.{eqb}
+use lib.ListN.{take}
+use Rattle.lines.specs.Rows.{rowsOf}
+use Rattle.controller.specs.declared.State.{State}
+use Rattle.image.specs.Images.{size, imageOf, saveOf}
+use Rattle.reading.specs.declared.Reading.{Reading}
+use Rattle.reading.specs.Rows.{hasStarted, readFrom}
+use Rattle.reading.specs.Whole.{readTo}
+use Rattle.lesson.specs.declared.Lesson.{Lesson}
+use Rattle.handing.specs.declared.Saved.{Saved}
+
+-- ---- The whole run
+
+-- Where row 0 has been read, the image of the controller as the last good row left it: also where a 5, 6 or 7 ended the reading
+-- behind row 0, for a battery that dies tears the last row of a log. Where it has not been read, nothing.
+unfoldable pub imageLeft : Reading → List ℕ
+imageLeft reading = cond (hasStarted (reading .phase)) (imageOf (reading .state)) []
+
+-- From the controller that a run starts from, and all bytes of a trace.
+unfoldable pub savedOf : State → List ℕ → List ℕ
+savedOf state input = imageLeft (readTo (readFrom state) (rowsOf input))
+
+-- ---- Into a lent buffer
+
+-- What `save` of the crate `image` answers, with the number of bytes that it wrote: an image, or nothing where it was refused.
+abbrev pub savedBy : ℕ × List ℕ → Saved × List ℕ
+savedBy answer = (record { refusal = answer .0; written = cond (eqb (answer .0) 0) size 0 }, answer .1)
+
+-- 8: there is an image to write, and the buffer is shorter; it is left as it was. Else 0: what is written stands in front, and the
+-- bytes past it stay.
+unfoldable pub saveLastOf : Lesson → List ℕ → Saved × List ℕ
+saveLastOf lesson buffer =
+    cond (hasStarted (lesson .reading .phase)) (savedBy (saveOf (lesson .reading .state) buffer))
+    (record { refusal = 0; written = 0 }, buffer)
+
+-- What was written: so many bytes of the buffer as the answer says.
+abbrev pub wrote : Saved × List ℕ → List ℕ
+wrote answer = take (answer .0 .written) (answer .1)

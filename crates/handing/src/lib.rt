@@ -1,0 +1,47 @@
+// A whole run of saving (request K3): the trace of a lesson in, the image of its last state out, by which the lesson goes on at
+// another laptop. The rule is specs/Handing.antt, from all bytes of the trace to the bytes that are written. The trace is taken in by
+// parts, as for `replay` (the crate `lesson`); proofs/Law.antt says that however it is cut, the image of the whole is written.
+ghost use mathlib.Core.Path.{_≡_};
+ghost use Rattle.image.specs.Images.{saveOf};
+ghost use Rattle.handing.specs.Handing.{savedBy, saveLastOf};
+use controller::State;
+use image::SIZE;
+use lesson::Lesson;
+
+// What saving gives: 0 or refusal 8, and how many bytes were written.
+pub struct Saved {
+    pub refusal: u8,
+    pub written: usize,
+}
+
+// Saves a controller into a lent buffer.
+fn save_state(state: State, out: &mut [u8]) -> Saved
+    ensures { λ r. ⌜ (r, now (out .exit)) ≡ savedBy (saveOf state (now (out .entry))) ⌝ }
+{
+    let refusal = image::save(state, out);
+    if refusal == 0 {
+        return Saved {
+            refusal,
+            written: SIZE,
+        };
+    }
+    Saved {
+        refusal,
+        written: 0,
+    }
+}
+
+// Saves the last state of a run into a lent buffer, which must have room for an image. Where row 0 has not been read there is none,
+// and nothing is written.
+pub fn save_last(lesson: Lesson, out: &mut [u8]) -> Saved
+    ensures { λ r. ⌜ (r, now (out .exit)) ≡ saveLastOf lesson (now (out .entry)) ⌝ }
+{
+    let phase = lesson.phase();
+    if phase.has_started() {
+        return save_state(lesson.state(), out);
+    }
+    Saved {
+        refusal: 0,
+        written: 0,
+    }
+}

@@ -1,0 +1,12 @@
+pub mod Reading
+pub mod Fours
+pub mod Ranged
+pub mod Sensors
+pub mod Pieces
+pub mod Loading
+pub mod Mirrors
+pub mod Keeping
+pub mod Exact
+pub mod RoundTrips
+pub mod Worked
+mod Once

@@ -1,0 +1,38 @@
+-- The worked images come out as they should: the rules compute.
+-- Assumes nothing.
+use mathlib.Core.Path.{refl}
+use Rattle.common.specs.Case.{AllAsWanted}
+use Rattle.voter.specs.Numbers.{numberOf, channelsAt, numbered}
+use Rattle.sequence.specs.Numbers.{doorsAt, gearsAt}
+use Rattle.controller.proofs.Computing.{rules as stepRules}
+use Rattle.image.specs.Xdr.{fourBytes, itemFrom, bytesOf, itemsIn}
+use Rattle.image.specs.Items.{
+  sensorItems,
+  orderItems,
+  ordersItems,
+  restItems,
+  coreItems,
+  itemsOf,
+  sensorTops,
+  coreTops,
+  tops,
+  within,
+  sensorsIn,
+  coreIn,
+  stateIn,
+}
+use Rattle.image.specs.Rules.{rules, rulesHold}
+use Rattle.image.specs.Images.{imageOf, fits, loadedAt, refusalOf}
+use Rattle.image.specs.Cases.{fresh, opening, extending, imageCases}
+
+pub as-worked : AllAsWanted imageCases
+unfolding
+    stepRules
+    numberOf channelsAt numbered doorsAt gearsAt
+    fourBytes itemFrom bytesOf itemsIn
+    sensorItems orderItems ordersItems restItems coreItems itemsOf
+    sensorTops coreTops tops within sensorsIn coreIn stateIn
+    rules rulesHold
+    imageOf fits loadedAt refusalOf
+    fresh opening extending imageCases
+as-worked = refl

@@ -1,0 +1,105 @@
+-- Request K3: "An image is taken exactly if every item is in range (ages to 60,000), moving gears have doors OPEN, any of the four
+-- orders that is on is wanted and has general_EV on, doors not CLOSED without a cause has general_EV on, and an invalid sensor has a
+-- cause." Condition by condition, each over one state.
+-- Assumes nothing.
+use mathlib.Core.List.{List}
+use mathlib.Core.Path.{_≡_}
+use Prim.Native.Nat.{ℕ, _≤_, _<_}
+use lib.Dec.{T}
+use lib.ListN.{length}
+use Rattle.sequence.specs.declared.Doors.the-variants.{Closed, Open}
+use Rattle.orders.specs.Timing.{wantedOf}
+use Rattle.controller.specs.declared.State.{State}
+use Rattle.controller.specs.Shows.{
+  generalEV,
+  closeEV,
+  openEV,
+  retractEV,
+  extendEV,
+  doorsOf,
+  gearsMove,
+  red,
+  invalidSensor,
+}
+use Rattle.image.specs.Xdr.{itemsIn}
+use Rattle.image.specs.Items.{oldest, lastCause, tops, itemAt}
+use Rattle.image.specs.Images.{size, loadedAt}
+
+-- ---- Of the controller
+
+-- Moving gears have doors OPEN.
+abbrev pub MovingGearsHaveDoorsOpen : State → Type 0
+MovingGearsHaveDoorsOpen s = T (gearsMove s) → doorsOf s ≡ Open
+
+-- Any of the four orders that is on is wanted ..
+abbrev pub OnIsWanted : State → Type 0
+OnIsWanted s =
+    (T (closeEV s) → T (wantedOf (s .core .place) (red s) .closes)) ×
+    (T (openEV s) → T (wantedOf (s .core .place) (red s) .opens)) ×
+    (T (retractEV s) → T (wantedOf (s .core .place) (red s) .retracts)) ×
+    (T (extendEV s) → T (wantedOf (s .core .place) (red s) .extends))
+
+-- .. and has general_EV on.
+abbrev pub OnHasGeneral : State → Type 0
+OnHasGeneral s =
+    (T (closeEV s) → T (generalEV s)) ×
+    (T (openEV s) → T (generalEV s)) ×
+    (T (retractEV s) → T (generalEV s)) ×
+    (T (extendEV s) → T (generalEV s))
+
+-- Doors not CLOSED without a cause has general_EV on.
+abbrev pub OpenDoorsHaveGeneral : State → Type 0
+OpenDoorsHaveGeneral s = ¬ (doorsOf s ≡ Closed) → s .core .cause ≡ 0 → T (generalEV s)
+
+-- An invalid sensor has a cause.
+abbrev pub InvalidSensorHasCause : State → Type 0
+InvalidSensorHasCause s = T (invalidSensor s) → ¬ (s .core .cause ≡ 0)
+
+-- The five rules.
+pub record KeepsRules (s : State) : Type 0 where
+  pub movingHaveOpen : MovingGearsHaveDoorsOpen s
+  pub onIsWanted : OnIsWanted s
+  pub onHasGeneral : OnHasGeneral s
+  pub openHaveGeneral : OpenDoorsHaveGeneral s
+  pub invalidHasCause : InvalidSensorHasCause s
+
+-- Ages to 60,000: the five orders' and the handle's.
+abbrev pub AgesTo60000 : State → Type 0
+AgesTo60000 s =
+    (s .core .orders .general .age ≤ oldest) ×
+    (s .core .orders .closes .age ≤ oldest) ×
+    (s .core .orders .opens .age ≤ oldest) ×
+    (s .core .orders .retracts .age ≤ oldest) ×
+    (s .core .orders .extends .age ≤ oldest) ×
+    (s .core .since ≤ oldest)
+
+-- Causes to 13.
+abbrev pub CausesTo13 : State → Type 0
+CausesTo13 s = s .core .cause ≤ lastCause
+
+-- A controller whose image is taken: the eighteen sensors, ages and cause in range, and the rules.
+pub record Allowed (s : State) : Type 0 where
+  pub sensors : length (s .voters) ≡ 18
+  pub ages : AgesTo60000 s
+  pub causes : CausesTo13 s
+  pub rules : KeepsRules s
+
+-- ---- Of the image
+
+-- Every number of a list is below this.
+abbrev pub AllBelow : ℕ → List ℕ → Type 0
+AllBelow top numbers = (k : ℕ) → k < length numbers → itemAt numbers k < top
+
+-- Bytes: each is below 256.
+abbrev pub AllBytes : List ℕ → Type 0
+AllBytes = AllBelow 256
+
+-- 51 items of four bytes each, and every item is in range.
+pub record InRange (image : List ℕ) : Type 0 where
+  pub long : length image ≡ size
+  pub ranges : (k : ℕ) → k < length tops → itemAt (itemsIn image) k ≤ itemAt tops k
+
+-- An image that is taken.
+pub record Taken (image : List ℕ) : Type 0 where
+  pub inRange : InRange image
+  pub rules : KeepsRules (loadedAt 0 image)

@@ -1,0 +1,122 @@
+-- Request K3: the controller as 51 items, and the controller that 51 items are of. Each is the mirror of the other.
+-- Assumes nothing.
+use Prim.Native.Nat.{ℕ, zero, suc, _-_, _^_}
+use mathlib.Core.Bool.{Bool, true, false, _&&_}
+use mathlib.Core.List.{List, [], _∷_, _++_}
+use lib.Dec.{eqb, leb}
+use lib.ListN.{getD, take, drop}
+use Rattle.common.specs.Case.{bit}
+use Rattle.voter.specs.declared.Voter.{Voter}
+use Rattle.voter.specs.Voting.{valueOf}
+use Rattle.voter.specs.Numbers.{numberOf, numbered, lastNumber as lastVoter}
+use Rattle.sequence.specs.Moves.{place}
+use Rattle.sequence.specs.Numbers.{doorsNumber, gearsNumber, doorsAt, gearsAt, lastNumber as lastPlace}
+use Rattle.orders.specs.declared.Order.{Order}
+use Rattle.orders.specs.declared.Orders.{Orders}
+use Rattle.orders.specs.Timing.{order}
+use Rattle.controller.specs.declared.Core.{Core}
+use Rattle.controller.specs.declared.State.{State}
+
+-- ---- The items of a controller
+
+-- Per sensor its voter and held value.
+unfoldable pub sensorItems : List Voter → List ℕ
+sensorItems [] = []
+sensorItems (v ∷ vs) = numberOf v ∷ bit (valueOf v) ∷ sensorItems vs
+
+-- Per order on and age.
+unfoldable pub orderItems : Order → List ℕ
+orderItems o = bit (o .on) ∷ o .age ∷ []
+
+-- The orders, as in the output row.
+unfoldable pub ordersItems : Orders → List ℕ
+ordersItems os =
+    orderItems (os .general) ++
+    orderItems (os .closes) ++
+    orderItems (os .opens) ++
+    orderItems (os .retracts) ++
+    orderItems (os .extends)
+
+-- Handle age, doors, gears, cause.
+unfoldable pub restItems : Core → List ℕ
+restItems c = c .since ∷ doorsNumber (c .place .doors) ∷ gearsNumber (c .place .gears) ∷ c .cause ∷ []
+
+unfoldable pub coreItems : Core → List ℕ
+coreItems c = ordersItems (c .orders) ++ restItems c
+
+-- Last stamp; the sensors; the rest.
+unfoldable pub itemsOf : State → List ℕ
+itemsOf s = s .stamp ∷ (sensorItems (s .voters) ++ coreItems (s .core))
+
+-- ---- The range of each item, from 0 to these
+
+-- A voter, and a held value.
+unfoldable pub sensorTops : ℕ → List ℕ
+sensorTops zero = []
+sensorTops (suc sensors) = lastVoter ∷ 1 ∷ sensorTops sensors
+
+abbrev pub oldest : ℕ
+oldest = 60000
+
+abbrev pub lastCause : ℕ
+lastCause = 13
+
+unfoldable pub coreTops : List ℕ
+coreTops =
+    -- general_EV, close_EV, open_EV, retract_EV, extend_EV: on, and age to 60,000
+    1 ∷ oldest ∷
+    1 ∷ oldest ∷
+    1 ∷ oldest ∷
+    1 ∷ oldest ∷
+    1 ∷ oldest ∷
+    -- handle age, doors, gears, cause
+    oldest ∷ lastPlace ∷ lastPlace ∷ lastCause ∷
+    []
+
+-- The stamp may be any that 32 bits hold.
+unfoldable pub tops : List ℕ
+tops = (2 ^ 32 - 1) ∷ (sensorTops 18 ++ coreTops)
+
+-- There are as many items as ranges, and each is in its range.
+unfoldable pub within : List ℕ → List ℕ → Bool
+within [] [] = true
+within [] (item ∷ items) = false
+within (top ∷ tops) [] = false
+within (top ∷ tops) (item ∷ items) = leb item top && within tops items
+
+-- ---- The controller that items are of
+
+-- On, or held 1.
+abbrev pub isOne : ℕ → Bool
+isOne item = eqb item 1
+
+-- Two items for each sensor.
+unfoldable pub sensorsIn : List ℕ → List Voter
+sensorsIn [] = []
+sensorsIn (voter ∷ []) = []
+sensorsIn (voter ∷ held ∷ items) = numbered voter (isOne held) ∷ sensorsIn items
+
+-- The item at a place, counted from 0.
+abbrev pub itemAt : List ℕ → ℕ → ℕ
+itemAt items k = getD items k 0
+
+-- Two items for each order, and four more.
+unfoldable pub coreIn : List ℕ → Core
+coreIn items =
+    record {
+      orders =
+          record {
+            general = order (isOne (itemAt items 0)) (itemAt items 1);
+            closes = order (isOne (itemAt items 2)) (itemAt items 3);
+            opens = order (isOne (itemAt items 4)) (itemAt items 5);
+            retracts = order (isOne (itemAt items 6)) (itemAt items 7);
+            extends = order (isOne (itemAt items 8)) (itemAt items 9);
+          };
+      since = itemAt items 10;
+      place = place (doorsAt (itemAt items 11)) (gearsAt (itemAt items 12));
+      cause = itemAt items 13;
+    }
+
+-- Loading takes a new start stamp, and the image's own is left.
+unfoldable pub stateIn : ℕ → List ℕ → State
+stateIn stamp items = record { stamp = stamp; voters = sensorsIn (take 36 (drop 1 items)); core = coreIn (drop 37 items) }

@@ -1,0 +1,6 @@
+pub mod Xdr
+pub mod Items
+pub mod Rules
+pub mod Images
+pub mod Conditions
+pub mod Cases

@@ -1,0 +1,60 @@
+// The image of a controller (request K3): 51 items of RFC 4506, four bytes each, by which a lesson goes on at another laptop.
+// The rule is specs/: Xdr.antt (an item), Items.antt (the items of a controller, their ranges, and the controller that items are of),
+// Rules.antt (what an image must keep to), Images.antt (saving, loading and the refusals). specs/Conditions.antt says condition by
+// condition which images are taken, and proofs/Exact.antt that it is so exactly.
+ghost use mathlib.Core.Path.{_≡_};
+ghost use Rattle.image.specs.Xdr.{itemsIn};
+ghost use Rattle.image.specs.Items.{itemAt};
+ghost use Rattle.image.specs.Images.{saveOf, loadOf};
+
+mod items;
+mod ranges;
+mod rules;
+mod xdr;
+
+use controller::Answer;
+use controller::State;
+
+// An image has so many bytes.
+pub const SIZE: usize = 204;
+
+// Saves a controller into a lent buffer: 0, or 8 where the buffer is shorter than an image.
+pub fn save(state: State, out: &mut [u8]) -> u8
+    ensures { λ r. ⌜ (r, now (out .exit)) ≡ saveOf state (now (out .entry)) ⌝ }
+{
+    if out.len() < SIZE {
+        return 8;
+    }
+    items::put_state(out, state);
+    0
+}
+
+// Loads an image at a new start stamp: 0 and the controller that it is of, or 10 or 11 and the controller as it was.
+pub fn load(before: State, image: &[u8], stamp: u32) -> Answer
+    ensures { λ r. ⌜ r ≡ loadOf before (now (image .entry)) stamp ⌝ }
+{
+    if ranges::fits(image) {
+        let state = items::state_in(image, stamp);
+        if rules::hold(state) {
+            return Answer { refusal: 0, state };
+        }
+        return Answer {
+            refusal: 11,
+            state: before,
+        };
+    }
+    Answer {
+        refusal: 10,
+        state: before,
+    }
+}
+
+// The last stamp that an image bears; 0 where it has not even that item.
+pub fn last_stamp(image: &[u8]) -> u32
+    ensures { λ r. ⌜ r ≡ itemAt (itemsIn (now (image .entry))) 0 ⌝ }
+{
+    if image.len() < xdr::ITEM {
+        return 0;
+    }
+    xdr::item(image, 0)
+}

@@ -1,0 +1,42 @@
+-- `plain::lines::order_line` meets its contract: the name, what is said of the order, and the line's end.
+-- Assumes nothing.
+use native.Mathlib.Omega.{arith}
+use Rattle.texts.proofs.Placing.{then}
+use Rattle.plain.specs.Plain.{line}
+use borrow.Author.Needs.{needs}
+use Rattle.plain.proofs.lines.order_line.Statement.{statement}
+use Rattle.plain.proofs.lines.order_line.Tie as tie
+
+put-name-requires : tie.Need-put-name-requires
+put-name-requires c κs = search needs
+
+put-order-requires : tie.Need-put-order-requires
+put-order-requires c κs = search needs
+
+slice-aggregate-put-text : tie.Need-slice-aggregate-put-text
+slice-aggregate-put-text c = search needs
+
+put-text-requires : tie.Need-put-text-requires
+put-text-requires c κs = search needs
+
+same-length : tie.Need-same-length
+same-length c = search needs
+
+returns : tie.Need-returns
+unfolding line
+returns c =
+    let ended = c .before .before in
+    let said = ended .before .before .before .before .before in
+    let named = said .before .before .before .before in
+    (omega arith, then (then (named .put-name .ensures .1) (said .put-order .ensures .1)) (ended .put-text .ensures))
+
+pub order-line-spec : {M : Type 1} → statement M
+order-line-spec =
+    tie.close
+    (tie.spec
+    put-name-requires
+    put-order-requires
+    slice-aggregate-put-text
+    put-text-requires
+    same-length
+    returns)

@@ -1,0 +1,132 @@
+//! The program `handover` of request K3 but for its files and standard error: a lesson saved as an image,
+//! a trace that goes on from one, an image in words.
+
+use crate::image::{Image, Untaken};
+use crate::rig::{majority, Rig};
+use crate::rules::{Rules, Slip};
+use crate::trace::{replay_from, run, Ended, Row, Sink, Start, Stopped};
+use std::io::{self, Read, Write};
+
+/// What is asked for, with the bytes of the image that it is about.
+#[derive(Clone, Copy)]
+pub enum Task<'a> {
+    Save,
+    SaveFrom(&'a [u8]),
+    Resume(&'a [u8]),
+    Show(&'a [u8]),
+}
+
+/// What there is to say on standard error.
+#[derive(Clone, PartialEq, Eq, Debug)]
+pub enum Said {
+    Untaken(Untaken),
+    Ended(Ended),
+    NoRow0,
+}
+
+impl std::fmt::Display for Said {
+    fn fmt(&self, f: &mut std::fmt::Formatter<'_>) -> std::fmt::Result {
+        match self {
+            Said::Untaken(untaken) => write!(f, "the image is not taken, {untaken}"),
+            Said::Ended(ended) => write!(f, "{ended}"),
+            Said::NoRow0 => write!(f, "the trace has no row 0, so there is no image of it"),
+        }
+    }
+}
+
+/// Keeps the controller as the last row left it, and writes its image at the end.
+struct Save<W> {
+    out: W,
+    last: Option<Rig>,
+    /// The stamp of row 0, once there was one.
+    start: Option<u32>,
+    // For faults: the state before, the last row's code and stamp, whether there was a 5, 6 or 7.
+    before: Option<Rig>,
+    code: u8,
+    shown: u32,
+    refused: bool,
+}
+
+impl<W: Write> Sink for Save<W> {
+    fn row(&mut self, r: &Rules, label: u64, code: u8, row: &Row, rig: &Rig) -> io::Result<()> {
+        self.start.get_or_insert(row.stamp);
+        self.before = self.last.replace(rig.clone());
+        (self.code, self.shown) = (code, row.stamp);
+        if let (Slip::HeldUnvoted, 0, 1.., Some(last)) = (r.slip, code, label, &mut self.last) {
+            last.held = majority(row.sample);
+        }
+        Ok(())
+    }
+
+    fn refused(&mut self, _: &Ended) {
+        self.refused = true;
+    }
+
+    fn end(&mut self, r: &Rules, _: bool) -> io::Result<()> {
+        let last = match r.slip {
+            Slip::ImageBefore => self.before.take(),
+            Slip::TornNoImage if self.refused => None,
+            Slip::StallNoImage if self.code != 0 => None,
+            Slip::ImageWithoutRow0 => self.last.take().or_else(|| Some(Rig::fresh(r, 0))),
+            _ => self.last.take(),
+        };
+        let Some(mut rig) = last else { return Ok(()) };
+        rig.stamp = match r.slip {
+            Slip::StampOfStart => self.start.unwrap_or_default(),
+            Slip::StampOfRefused => self.shown,
+            _ => rig.stamp,
+        };
+        self.out.write_all(&Image::of(r, &rig).bytes(r))
+    }
+}
+
+fn save(r: &Rules, start: Start, input: impl Read, out: impl Write) -> Result<Option<Said>, Stopped> {
+    let mut save = Save { out, last: None, start: None, before: None, code: 0, shown: 0, refused: false };
+    let ended = run(r, start, input, &mut save)?;
+    Ok(match (ended, save.start) {
+        (Some(ended), _) => Some(Said::Ended(ended)),
+        (None, None) => Some(Said::NoRow0),
+        (None, Some(_)) => None,
+    })
+}
+
+/// `handover`. An image that is not taken leaves the trace unread and writes nothing.
+pub fn handover(
+    r: &Rules,
+    task: Task,
+    input: impl Read,
+    mut out: impl Write,
+) -> Result<Option<Said>, Stopped> {
+    let image = match task {
+        Task::Save => return save(r, Start::Fresh, input, out),
+        Task::SaveFrom(bytes) | Task::Resume(bytes) | Task::Show(bytes) => match Image::take(r, bytes) {
+            Ok(image) => image,
+            Err(untaken) => return Ok(Some(Said::Untaken(untaken))),
+        },
+    };
+    match task {
+        Task::Resume(_) => {
+            replay_from(r, Start::From(&image), input, out).map(|ended| ended.map(Said::Ended))
+        }
+        Task::Show(_) => {
+            out.write_all(image.words(r).as_bytes()).map_err(Stopped::Writing)?;
+            Ok(None)
+        }
+        _ => save(r, Start::From(&image), input, out),
+    }
+}
+
+/// In memory, for tests.
+pub fn handover_bytes(r: &Rules, task: Task, input: &[u8]) -> (Vec<u8>, Option<Said>) {
+    let mut out = Vec::new();
+    let said = handover(r, task, input, &mut out);
+    (out, said.unwrap_or(None))
+}
+
+/// What is stored for an image: what `show` writes, or one line with the refusal.
+pub fn shown_or_refused(r: &Rules, image: &[u8]) -> Vec<u8> {
+    match handover_bytes(r, Task::Show(image), b"") {
+        (_, Some(Said::Untaken(untaken))) => format!("refusal {}\n", untaken.refusal).into_bytes(),
+        (words, _) => words,
+    }
+}

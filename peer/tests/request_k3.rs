@@ -1,0 +1,466 @@
+//! Request K3, told by the images of Session S after each row and by what must hold of any image. Stored
+//! vectors are taken from VECTORS, if there are any.
+use peer::gen::{cut, trace, KINDS};
+use peer::handover::{handover_bytes, shown_or_refused, Said, Task};
+use peer::image::{layout, Image, Item, BYTES, ITEMS};
+use peer::image_gen::{image, second_trace, IMAGE_KINDS};
+use peer::image_vectors::{image_traces, images, onwards, stored_images};
+use peer::rig::*;
+use peer::rules::{image_faults, unseen_in_images, Rules};
+use peer::trace::{replay_bytes, OUT_HEADER};
+use peer::vectors::{session_s, vectors};
+use std::io::Write;
+use std::path::{Path, PathBuf};
+use std::process::{Command, Stdio};
+
+/// Label and image in hexadecimal, a line for each row.
+const SESSION_S: &str = include_str!("session_s.images.txt");
+
+fn save(trace: &[u8]) -> Vec<u8> {
+    handover_bytes(&Rules::default(), Task::Save, trace).0
+}
+
+fn save_from(image: &[u8], trace: &[u8]) -> Vec<u8> {
+    handover_bytes(&Rules::default(), Task::SaveFrom(image), trace).0
+}
+
+fn resume(image: &[u8], trace: &[u8]) -> String {
+    String::from_utf8(handover_bytes(&Rules::default(), Task::Resume(image), trace).0).unwrap()
+}
+
+fn show(image: &[u8]) -> String {
+    String::from_utf8(handover_bytes(&Rules::default(), Task::Show(image), b"").0).unwrap()
+}
+
+/// 0, 10 or 11.
+fn refusal(image: &[u8]) -> u8 {
+    Image::take(&Rules::default(), image).err().map_or(0, |untaken| untaken.refusal)
+}
+
+fn hex(bytes: &[u8]) -> String {
+    bytes.iter().map(|b| format!("{b:02x}")).collect()
+}
+
+/// The first rows of a trace.
+fn rows(trace: &[u8], count: usize) -> Vec<u8> {
+    trace.split_inclusive(|&b| b == b'\n').take(count + 1).flatten().copied().collect()
+}
+
+fn items(image: &[u8]) -> Vec<u32> {
+    image.chunks(4).map(|four| u32::from_be_bytes(four.try_into().unwrap())).collect()
+}
+
+fn vector(name: &str) -> Vec<u8> {
+    vectors().into_iter().find(|v| v.0 == name).unwrap().1
+}
+
+#[test]
+fn session_s_after_each_row() {
+    let lines: Vec<&str> = SESSION_S.lines().collect();
+    assert_eq!(lines.len(), 12);
+    for (label, line) in lines.into_iter().enumerate() {
+        let image = save(&rows(&session_s(), label + 1));
+        assert_eq!(format!("{label} {}", hex(&image)), line);
+        assert_eq!((refusal(&image), image.len()), (0, BYTES));
+    }
+}
+
+#[test]
+fn the_words_of_session_s() {
+    let words = show(&save(&session_s()));
+    let lines: Vec<&str> = words.lines().collect();
+    assert_eq!((lines.len(), words.ends_with('\n'), words.contains('\r')), (28, true, false));
+    assert_eq!(
+        lines[..4],
+        [
+            "last stamp: 1650",
+            "handle: all channels valid, held 1",
+            "analogical_switch: all channels valid, held 0",
+            "gear_extended_front: all channels valid, held 0",
+        ]
+    );
+    assert_eq!(
+        lines[18..],
+        [
+            "circuit_pressurized: all channels valid, held 0",
+            "general_EV: on, age 500 ms",
+            "close_EV: off, age 60000 ms",
+            "open_EV: off, age 250 ms",
+            "retract_EV: off, age 100 ms",
+            "extend_EV: on, age 0 ms",
+            "handle age: 100 ms",
+            "doors: OPEN",
+            "gears: EXTENDING",
+            "cause: none",
+        ]
+    );
+}
+
+/// A trace in form, cut in two: saved after some row, gone on from with the rest under new labels.
+#[test]
+fn a_lesson_handed_over_is_the_same_lesson() {
+    for seed in 0..200 {
+        let kind = KINDS[seed as usize % (KINDS.len() - 1)];
+        let text = trace(seed, kind, None).unwrap();
+        let all = cut(&text);
+        let last = all.len() - 2;
+        let at = (seed as usize * 37) % (last + 1);
+        let image = save(&rows(&text, at + 1));
+        // Row 0 of the second part: the sample does not count, the stamp is that of the last accepted row.
+        let stamp = items(&image)[0];
+        let mut second = [&all[0][..], b"\r\n"].concat();
+        let triples = |row: &[u8]| row.splitn(3, |&b| b == b',').nth(2).unwrap().to_vec();
+        second.extend([format!("0,{stamp},").as_bytes(), &triples(&all[1]), b"\r\n"].concat());
+        for (label, row) in all[at + 2..].iter().enumerate() {
+            let rest = row.splitn(2, |&b| b == b',').nth(1).unwrap();
+            second.extend([format!("{},", label + 1).as_bytes(), rest, b"\r\n"].concat());
+        }
+        let whole = String::from_utf8(replay_bytes(&Rules::default(), &text).0).unwrap();
+        let resumed = resume(&image, &second);
+        let fields = |line: &str| line.split_once(',').unwrap().1.to_string();
+        let (whole, resumed): (Vec<_>, Vec<_>) = (whole.lines().collect(), resumed.lines().collect());
+        assert_eq!(whole.len(), at + resumed.len(), "{kind} {seed}");
+        for (label, line) in resumed.iter().enumerate().skip(2) {
+            assert_eq!(fields(line), fields(whole[at + label]), "{kind} {seed}");
+        }
+        // Row 0 shows the state as it was left, with code 0.
+        assert_eq!(fields(&fields(resumed[1])), fields(&fields(whole[at + 1])), "{kind} {seed}");
+        assert_eq!(save_from(&image, &second), save(&text), "{kind} {seed}");
+    }
+}
+
+#[test]
+fn loading_takes_a_new_stamp_and_nothing_else() {
+    let rules = Rules::default();
+    let row_0 = |stamp: u32| {
+        let mut all = cut(&session_s());
+        peer::gen::field(&mut all[1], 1, stamp.to_string().into_bytes());
+        [&all[0][..], b"\r\n", &all[1]].concat()
+    };
+    for seed in 0..600 {
+        let bytes = image(seed, "good").unwrap();
+        let taken = Image::take(&rules, &bytes).unwrap();
+        assert_eq!(taken.bytes(&rules), bytes, "{seed}");
+        for stamp in [0, 1, taken.stamp, taken.stamp.wrapping_add(50), u32::MAX] {
+            let again = save_from(&bytes, &row_0(stamp));
+            assert_eq!(again[..4], stamp.to_be_bytes());
+            assert_eq!(again[4..], bytes[4..], "{seed}");
+        }
+    }
+}
+
+/// The image of any run is taken.
+#[test]
+fn saved_images_are_taken() {
+    let mut empty = 0;
+    for seed in 0..400 {
+        let image = save(&trace(seed, KINDS[seed as usize % KINDS.len()], None).unwrap());
+        if image.is_empty() {
+            empty += 1;
+            continue;
+        }
+        assert_eq!((image.len(), refusal(&image)), (BYTES, 0), "{seed}");
+        // So is what comes of going on from it.
+        let onward = save_from(&image, &second_trace(seed, &image));
+        assert!(onward.is_empty() || refusal(&onward) == 0, "{seed}");
+    }
+    assert!(empty < 70);
+}
+
+/// K3's ranges and rules as sentences over the 51 numbers; which of the rules are broken.
+fn by_definition(image: &[u8]) -> (u8, Vec<u8>) {
+    if image.len() != 204 {
+        return (10, vec![]);
+    }
+    let n = items(image);
+    let ranges = |n: &[u32]| {
+        n[1..37].chunks(2).all(|s| s[0] <= 4 && s[1] <= 1)
+            && n[37..47].chunks(2).all(|o| o[0] <= 1 && o[1] <= 60_000)
+            && n[47] <= 60_000
+            && n[48] <= 3
+            && n[49] <= 3
+            && n[50] <= 13
+    };
+    if !ranges(&n) {
+        return (10, vec![]);
+    }
+    let (general, doors, gears, cause) = (n[37] == 1, n[48], n[49], n[50]);
+    // close_EV, open_EV, retract_EV, extend_EV, each with where it is wanted.
+    let four = [(n[39], doors == 3), (n[41], doors == 1), (n[43], gears == 3), (n[45], gears == 1)];
+    let mut broken = vec![];
+    if (gears == 1 || gears == 3) && doors != 2 {
+        broken.push(1);
+    }
+    if four.iter().any(|&(on, place)| on == 1 && !(place && cause == 0)) {
+        broken.push(2);
+    }
+    if four.iter().any(|&(on, _)| on == 1) && !general {
+        broken.push(3);
+    }
+    if doors != 0 && cause == 0 && !general {
+        broken.push(4);
+    }
+    if n[1..37].iter().step_by(2).any(|&voter| voter == 4) && cause == 0 {
+        broken.push(5);
+    }
+    (if broken.is_empty() { 0 } else { 11 }, broken)
+}
+
+#[test]
+fn images_are_taken_exactly_if_k3_says_so() {
+    let mut counts = [0; 3];
+    for seed in 0..12_000 {
+        let kind = IMAGE_KINDS[seed as usize % IMAGE_KINDS.len()];
+        let bytes = image(seed, kind).unwrap();
+        let number = refusal(&bytes);
+        assert_eq!(number, by_definition(&bytes).0, "{kind} {seed}");
+        assert!(kind != "good" || number == 0);
+        counts[[0, 10, 11].iter().position(|&n| n == number).unwrap()] += 1;
+    }
+    assert!(counts.iter().all(|&n| n > 1_000), "{counts:?}");
+}
+
+/// Each item alone, at its top and one past it; what is refused says nothing else.
+#[test]
+fn each_item_has_its_range() {
+    let rules = Rules::default();
+    let base = Image::take(&rules, &save(&session_s())).unwrap();
+    let base = Image { on: [1, 0, 0, 0, 0], doors: 2, gears: 0, ..base };
+    let all = layout(&rules);
+    assert_eq!(all.len(), ITEMS);
+    for item in all {
+        let top = match item {
+            Item::Stamp => u32::MAX,
+            Item::Voter(_) => 3,
+            Item::Held(_) => 1,
+            // One of the four that is on is not wanted here.
+            Item::On(order) => u32::from(order == GENERAL),
+            Item::Age(_) => 60_000,
+            Item::Doors => 3,
+            Item::Gears => 3,
+            Item::Cause => 13,
+        };
+        let with = |value: u32| {
+            let mut image = base.clone();
+            *image.item(item) = value;
+            refusal(&image.bytes(&rules))
+        };
+        assert_eq!(with(top), 0, "{item:?}");
+        match item {
+            Item::Stamp => assert_eq!(with(0), 0),
+            Item::Voter(_) => assert_eq!([with(4), with(5), with(u32::MAX)], [11, 10, 10], "{item:?}"),
+            Item::On(GENERAL) => assert_eq!([with(0), with(2)], [11, 10]),
+            Item::On(_) => assert_eq!([with(1), with(2)], [11, 10], "{item:?}"),
+            _ => assert_eq!([with(top + 1), with(u32::MAX), with(1 << 31)], [10; 3], "{item:?}"),
+        }
+    }
+}
+
+#[test]
+fn every_length_but_204_is_10() {
+    let image = save(&session_s());
+    for length in (0..BYTES).chain(BYTES + 1..2 * BYTES + 2) {
+        let other: Vec<u8> = image.iter().cycle().take(length).copied().collect();
+        assert_eq!(refusal(&other), 10, "{length}");
+    }
+}
+
+/// Row 0 shows what is held: its own sample does not count, and no time has passed.
+#[test]
+fn row_0_shows_the_loaded_state() {
+    let image = save(&session_s());
+    let text = resume(&image, &rows(&session_s(), 1));
+    let header = std::str::from_utf8(OUT_HEADER).unwrap();
+    assert_eq!(text, [header, "0,0,1,0,0,0,1,OPEN,EXTENDING,0,1,0\r\n"].concat());
+}
+
+#[test]
+fn what_ends_the_reading() {
+    let rules = Rules::default();
+    let said = |task, input: &[u8]| handover_bytes(&rules, task, input);
+    let image = save(&session_s());
+    // A torn last row: the image of the row before it, and the line is told.
+    let whole = session_s();
+    for torn in whole.len() - 80..whole.len() - 2 {
+        let (bytes, line) = said(Task::Save, &whole[..torn]);
+        assert_eq!(bytes, save(&rows(&whole, 11)));
+        assert!(matches!(line, Some(Said::Ended(ended)) if (ended.line, ended.refusal) == (13, 5)));
+    }
+    // Without its LF the last row is torn too; without CRLF it is whole.
+    assert_eq!(said(Task::Save, &whole[..whole.len() - 1]).0, save(&rows(&whole, 11)));
+    assert_eq!(said(Task::Save, &whole[..whole.len() - 2]), (image.clone(), None));
+    // No row 0.
+    for name in ["bad_empty", "bad_header_case", "bad_header_513", "bad_lone_lf"] {
+        for task in [Task::Save, Task::SaveFrom(&image)] {
+            let (bytes, line) = said(task, &vector(name));
+            assert!(bytes.is_empty() && matches!(line, Some(Said::Ended(_))), "{name}");
+        }
+    }
+    assert_eq!(said(Task::SaveFrom(&image), &vector("header_only")), (vec![], Some(Said::NoRow0)));
+    assert_eq!(said(Task::Resume(&image), &vector("header_only")), (OUT_HEADER.to_vec(), None));
+    // An image that is not taken: nothing is written, not even a header.
+    for task in [Task::SaveFrom(&image[1..]), Task::Resume(&image[1..]), Task::Show(&image[1..])] {
+        let (bytes, line) = said(task, &whole);
+        assert!(bytes.is_empty(), "{bytes:?}");
+        assert!(line.unwrap().to_string().contains("refusal 10: "));
+    }
+}
+
+/// The program itself: its output, and the line that it says, without `handover: `.
+fn program(args: &[&Path], input: &[u8]) -> (Vec<u8>, String) {
+    let mut child = Command::new(env!("CARGO_BIN_EXE_peer-handover"))
+        .args(args)
+        .stdin(Stdio::piped())
+        .stdout(Stdio::piped())
+        .stderr(Stdio::piped())
+        .spawn()
+        .unwrap();
+    // It need not read what it is given.
+    let _ = child.stdin.take().unwrap().write_all(input);
+    let ran = child.wait_with_output().unwrap();
+    assert_eq!(ran.status.code(), Some(0));
+    let said = String::from_utf8(ran.stderr).unwrap();
+    if said.is_empty() {
+        return (ran.stdout, said);
+    }
+    let line = said.strip_prefix("handover: ").unwrap().strip_suffix('\n').unwrap();
+    assert!(!line.contains('\n'), "{line}");
+    (ran.stdout, line.to_string())
+}
+
+#[test]
+fn the_program_with_its_words_and_files() {
+    let folder = std::env::temp_dir().join(format!("peer-request-k3-{}", std::process::id()));
+    std::fs::create_dir_all(&folder).unwrap();
+    let [good, bad, none] = ["good", "bad", "none"].map(|name| folder.join(name));
+    let (saved, whole) = (save(&session_s()), session_s());
+    std::fs::write(&good, &saved).unwrap();
+    std::fs::write(&bad, &images().iter().find(|v| v.0 == "bad_open_cause").unwrap().2).unwrap();
+    let [save, resume, show, other] = ["save", "resume", "show", "load"].map(Path::new);
+
+    let silent = |out: &[u8]| (out.to_vec(), String::new());
+    assert_eq!(program(&[save], &whole), silent(&saved));
+    assert_eq!(program(&[save, &good], &whole), silent(&save_from(&saved, &whole)));
+    assert_eq!(program(&[resume, &good], &whole), silent(self::resume(&saved, &whole).as_bytes()));
+    assert_eq!(program(&[show, &good], b""), silent(self::show(&saved).as_bytes()));
+    // The line and the refusal are told, and what there is of an image is written.
+    let (image, line) = program(&[save], &whole[..whole.len() - 40]);
+    assert!(image == self::save(&rows(&whole, 11)) && line.contains("line 13: refusal 5"), "{line}");
+    assert!(program(&[resume, &good], b"").1.contains("line 1: refusal 5"));
+    // Nothing is written, and a line says why.
+    let uses: [&[&Path]; 10] = [
+        &[],
+        &[other],
+        &[other, &good],
+        &[resume],
+        &[show],
+        &[save, &good, &good],
+        &[resume, &good, &good],
+        &[show, &good, &good],
+        &[show, &none],
+        &[resume, &folder],
+    ];
+    for args in uses {
+        let (out, line) = program(args, &whole);
+        assert!(out.is_empty() && !line.is_empty(), "{args:?}");
+    }
+    for word in [save, resume, show] {
+        let (out, line) = program(&[word, &bad], &whole);
+        assert!(out.is_empty() && line.contains("refusal 11"), "{line}");
+    }
+    let (out, line) = program(&[save], b"");
+    assert!(out.is_empty() && line.contains("line 1: refusal 5"), "{line}");
+    std::fs::remove_dir_all(&folder).unwrap();
+}
+
+/// Each image that breaks a rule breaks that one alone. Any of the four that is on and wanted has doors
+/// that are not CLOSED and no cause, so that two sentences of K3 ask for general_EV there.
+#[test]
+fn stored_bad_images_are_bad_for_one_reason() {
+    for (name, _, bytes) in images() {
+        let (number, broken) = by_definition(&bytes);
+        assert_eq!(number == 0, name.starts_with("good_"), "{name}");
+        let wanted: &[u8] = match name.trim_start_matches("bad_").split_once('_') {
+            _ if number != 11 => &[],
+            Some(("moving", _)) => &[1],
+            Some(("close" | "open" | "retract" | "extend", "unwanted" | "cause")) => &[2],
+            Some(("close" | "open" | "retract" | "extend", "no_general")) => &[3, 4],
+            Some(("opening" | "doors" | "closing", _)) => &[4],
+            Some(("invalid", _)) => &[5],
+            other => panic!("{name}: {other:?}"),
+        };
+        assert_eq!(broken, wanted, "{name}");
+    }
+}
+
+/// Where the stored vectors are.
+fn data() -> PathBuf {
+    PathBuf::from(std::env::var("VECTORS").unwrap_or("../crates/cases/data".into()))
+}
+
+#[test]
+fn stored_images_rows_and_words() {
+    let data = data();
+    if !data.exists() {
+        eprintln!("no vectors at {}: skipped", data.display());
+        return;
+    }
+    let all = stored_images(&data).unwrap();
+    for (name, trace, wanted) in &all.traces {
+        assert!(save(trace) == *wanted, "{name}.img");
+    }
+    for (name, image, trace, wanted) in &all.onwards {
+        assert!(resume(image, trace).as_bytes() == wanted, "{name}.resumed");
+        assert_eq!(refusal(image), 0, "{name}.start");
+    }
+    for (name, image, wanted) in &all.images {
+        assert!(shown_or_refused(&Rules::default(), image) == *wanted, "{name}.txt");
+    }
+    let (images, rows, words) = (all.traces.len(), all.onwards.len(), all.images.len());
+    println!("{images} images of traces, {rows} traces from images, {words} images with their words");
+}
+
+/// Every word that can stand in a line is in some stored text.
+#[test]
+fn stored_words_are_all_the_words() {
+    let Ok(all) = stored_images(&data()) else {
+        eprintln!("no vectors at {}: skipped", data().display());
+        return;
+    };
+    let text: String = all.images.iter().map(|v| String::from_utf8(v.2.clone()).unwrap()).collect();
+    let has = |line: &str| assert!(text.contains(line), "{line}");
+    ["all channels valid", "channel 1 struck", "channel 2 struck", "channel 3 struck", "invalid"]
+        .iter()
+        .for_each(|voter| [0, 1].iter().for_each(|held| has(&format!(": {voter}, held {held}\n"))));
+    ["CLOSED", "OPENING", "OPEN", "CLOSING"].iter().for_each(|doors| has(&format!("doors: {doors}\n")));
+    ["RETRACTED", "EXTENDING", "EXTENDED", "RETRACTING"]
+        .iter()
+        .for_each(|gears| has(&format!("gears: {gears}\n")));
+    (1..=13).for_each(|cause| has(&format!("cause: {cause}, ")));
+    ["cause: none\n", "refusal 10\n", "refusal 11\n"].iter().for_each(|line| has(line));
+}
+
+#[test]
+fn every_fault_is_in_some_stored_image() {
+    let Ok(traces) = image_traces(&[&data()]) else {
+        eprintln!("no vectors at {}: skipped", data().display());
+        return;
+    };
+    let rules = Rules::default();
+    let seen = |fault: &Rules| {
+        let shown = |image: &[u8]| shown_or_refused(fault, image) != shown_or_refused(&rules, image);
+        let saved = |trace: &[u8]| handover_bytes(fault, Task::Save, trace).0 != save(trace);
+        traces.iter().any(|t| saved(&t.text) || t.shown && shown(&save(&t.text)))
+            || images().iter().any(|v| shown(&v.2))
+            || onwards().iter().any(|v| {
+                handover_bytes(fault, Task::Resume(&v.image), &v.trace).0
+                    != resume(&v.image, &v.trace).as_bytes()
+            })
+    };
+    for (name, fault) in image_faults() {
+        assert!(seen(&fault), "{name}");
+    }
+    for (name, fault) in unseen_in_images() {
+        assert!(!seen(&fault), "{name}");
+    }
+}
