@@ -8,16 +8,22 @@ mod images;
 
 use controller::State;
 use lesson::Lesson;
+use reading::Phase;
 
 // The name that this program goes by on standard error.
 const NAME: [u8; 8] = *b"handover";
 
-// What the program is asked to do.
-enum Asked {
+// What is to be done with an image.
+enum Purpose {
     Save,
-    SaveFrom,
     Resume,
     Show,
+}
+
+// What the program is asked to do.
+enum Asked {
+    SaveFresh,
+    WithImage(Purpose),
     Nothing,
 }
 
@@ -29,21 +35,24 @@ fn is_word(buffer: &[u8], n: usize, word: &[u8]) -> bool {
     check::same(&buffer[..n], word)
 }
 
-// The word with one more argument, or without.
-fn by_word(buffer: &[u8], n: usize, more: bool) -> Asked {
+// What a word by itself asks for.
+fn alone(buffer: &[u8], n: usize) -> Asked {
     if is_word(buffer, n, b"save") {
-        if more {
-            return Asked::SaveFrom;
-        }
-        return Asked::Save;
+        return Asked::SaveFresh;
     }
-    if more {
-        if is_word(buffer, n, b"resume") {
-            return Asked::Resume;
-        }
-        if is_word(buffer, n, b"show") {
-            return Asked::Show;
-        }
+    Asked::Nothing
+}
+
+// What a word with an image asks for.
+fn with_one_more(buffer: &[u8], n: usize) -> Asked {
+    if is_word(buffer, n, b"save") {
+        return Asked::WithImage(Purpose::Save);
+    }
+    if is_word(buffer, n, b"resume") {
+        return Asked::WithImage(Purpose::Resume);
+    }
+    if is_word(buffer, n, b"show") {
+        return Asked::WithImage(Purpose::Show);
     }
     Asked::Nothing
 }
@@ -54,32 +63,37 @@ fn by_arguments() -> Asked {
     let mut buffer = io::buffer();
     let n = os::arg(1, &mut buffer);
     if count == 2 {
-        return by_word(&buffer, n, false);
+        return alone(&buffer, n);
     }
     if count == 3 {
-        return by_word(&buffer, n, true);
+        return with_one_more(&buffer, n);
     }
     Asked::Nothing
+}
+
+// Where no row 0 was read and no refusal was told either, says why nothing was saved.
+fn tell(phase: Phase) {
+    if phase.has_started() | phase.has_ended() {
+        return;
+    }
+    words::say(
+        &NAME,
+        b"the trace has no row 0, so there is nothing to save",
+    );
 }
 
 // Runs the trace from a lesson at its start, and puts out the image of its last state.
 fn save(start: Lesson) {
     let mut line = [0u8; 512];
     let ran = running::to_its_end(&NAME, start, &mut line);
-    if ran.well {
-        let lesson = ran.lesson;
-        let mut out = [0u8; 204];
-        let saved = handing::save_last(lesson, &mut out);
-        if words::put(&NAME, &out, saved.written) {
-            let phase = lesson.phase();
-            if !phase.has_started() & !phase.has_ended() {
-                words::say(
-                    &NAME,
-                    b"the trace has no row 0, so there is nothing to save",
-                );
-            }
-        }
+    if !ran.well {
+        return;
     }
+    let lesson = ran.lesson;
+    let mut out = [0u8; 204];
+    let saved = handing::save_last(lesson, &mut out);
+    words::put(&NAME, &out, saved.written);
+    tell(lesson.phase());
 }
 
 // Goes on with the trace from a controller.
@@ -90,33 +104,29 @@ fn resume(state: State) {
 
 // Shows a controller in plain words.
 fn show(state: State) {
-    let mut out = io::large_buffer();
+    let mut out = io::buffer();
     let n = plain::put(&mut out, 0, state);
     words::put(&NAME, &out, n);
 }
 
-// What is asked for with an image.
-fn with_image(asked: Asked) {
+// Does what is asked for with the image that is named.
+fn with_image(purpose: Purpose) {
     let loaded = images::named(&NAME);
-    if loaded.taken {
-        let state = loaded.state;
-        match asked {
-            Asked::SaveFrom => save(Lesson::from(state)),
-            Asked::Resume => resume(state),
-            Asked::Show => show(state),
-            Asked::Save => save(Lesson::new()),
-            Asked::Nothing => {}
-        }
+    if !loaded.taken {
+        return;
+    }
+    let state = loaded.state;
+    match purpose {
+        Purpose::Save => save(Lesson::from(state)),
+        Purpose::Resume => resume(state),
+        Purpose::Show => show(state),
     }
 }
 
 fn main() {
-    let asked = by_arguments();
-    match asked {
-        Asked::Save => save(Lesson::new()),
-        Asked::SaveFrom => with_image(asked),
-        Asked::Resume => with_image(asked),
-        Asked::Show => with_image(asked),
+    match by_arguments() {
+        Asked::SaveFresh => save(Lesson::new()),
+        Asked::WithImage(purpose) => with_image(purpose),
         Asked::Nothing => words::say(
             &NAME,
             b"use: save [IMAGE] < TRACE > IMAGE, resume IMAGE < TRACE, or show IMAGE",

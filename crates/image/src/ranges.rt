@@ -11,6 +11,9 @@ use crate::xdr;
 // There are so many items.
 const ITEMS: usize = 51;
 
+// Ages go to so many ms.
+const OLDEST: u32 = 60000;
+
 // Each item is at most this.
 const TOPS: [u32; 51] = [
     // last stamp
@@ -60,17 +63,17 @@ const TOPS: [u32; 51] = [
     1,
     // per order on and age: general_EV, close_EV, open_EV, retract_EV, extend_EV
     1,
-    60000,
+    OLDEST,
     1,
-    60000,
+    OLDEST,
     1,
-    60000,
+    OLDEST,
     1,
-    60000,
+    OLDEST,
     1,
-    60000,
+    OLDEST,
     // handle age, doors, gears, cause
-    60000,
+    OLDEST,
     3,
     3,
     13,
