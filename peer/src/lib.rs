@@ -1,5 +1,5 @@
-//! A second, independent implementation of document 01 with change requests K1, K2 and K3, for
-//! differential tests.
+//! A second, independent implementation of document 01 with change requests K1, K2, K3 and K4,
+//! for differential tests.
 #![forbid(unsafe_code)]
 
 pub mod cli;
@@ -11,7 +11,10 @@ pub mod handover;
 pub mod image;
 pub mod image_gen;
 pub mod image_vectors;
+pub mod page;
 pub mod rig;
 pub mod rules;
+pub mod svg;
 pub mod trace;
 pub mod vectors;
+pub mod wall;

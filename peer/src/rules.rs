@@ -1,11 +1,12 @@
 //! The numbers of document 01 and, for tests, the faults that can be planted.
-//! `Rules::default()` is document 01 with K1's lamps, K2's dumps and K3's images; every fault moves one
-//! number or makes one `Slip`.
+//! `Rules::default()` is document 01 with K1's lamps, K2's dumps, K3's images and K4's wall; every fault
+//! moves one number or makes one `Slip`.
 
 use crate::rig::{CLOSE, EXTEND, GENERAL, HANDLE_CLOCK, OPEN, RETRACT};
 
-/// One way of getting document 01, K1, K2 or K3 wrong that is not a moved number. A number in it is a
-/// unit: 0 front, 1 left, 2 right; for images a sensor, an order, a clock, or doors and gears by number.
+/// One way of getting document 01, K1, K2, K3 or K4 wrong that is not a moved number. A number in it is a
+/// unit: 0 front, 1 left, 2 right; for images a sensor, an order, a clock, or doors and gears by number; for
+/// the wall a fact, an entry or a place.
 #[derive(Clone, Copy, PartialEq, Eq, Debug)]
 #[rustfmt::skip]
 pub enum Slip {
@@ -85,6 +86,16 @@ pub enum Slip {
     InvalidLost, HeldLost, OrdersLost, Row0Stepped, FreshInstead,
     // Showing one
     ShownCrLf, ShownNoLastLf, ShownThousands, ShownChannels0, ShownCauseNext, ShownOnOff, ShownStampSigned,
+    // The wall: which entry is asked
+    FactsSwapped(usize, usize), FactsBackwards, PlaceBackwards, HandleInIndex, DoorsGearsInIndex, HandleLast,
+    IndexNext, EntryWrong(usize),
+    // What its row says
+    PossibleInverted, PossibleClosed, PossibleNotClosed, PossibleAlways, PossibleOfNext,
+    NextAndPresent, NextIsPresent, NextGearsFirst, HandleWords, OpenAndClosingNumbers, NumbersFrom1, EntriesFrom1,
+    WallLf, WallNoHeader, WallNoLastCrLf, WallLowerCase,
+    // What its page says
+    PageNoGrey, PageGreyMoved, PageNoElse, PageThenElse, PageFactUnnamed, PageFactTooMany, PageOtherFact,
+    PageMovesKeeps, PageStaysSpelt, PageColumns, PageRows, PageHandles, PageNumbers, PageLacks(usize), PageTwice(usize),
 }
 
 /// The highest number of each sort of item in an image.
@@ -587,8 +598,67 @@ fn start_faults() -> Vec<(String, Rules)> {
     all
 }
 
+/// Faults of the wall that are none of the sequence: its CSV shows them, or its page.
+pub fn wall_faults() -> Vec<(String, Rules)> {
+    use Slip::*;
+    let mut all = Vec::new();
+    for (a, b) in [(0, 1), (0, 2), (0, 3), (1, 2), (1, 3), (2, 3)] {
+        let name = format!("{}_and_{}_swapped_in_index", FACTS[a], FACTS[b]);
+        all.extend(slips(&[(&name[..], FactsSwapped(a, b))]));
+    }
+    all.extend(slips(&[
+        ("facts_numbered_backwards", FactsBackwards),
+        ("place_runs_backwards", PlaceBackwards),
+        ("handle_swapped_in_index", HandleInIndex),
+        ("doors_and_gears_swapped_in_index", DoorsGearsInIndex),
+        ("handle_last_in_index", HandleLast),
+        ("index_one_further", IndexNext),
+    ]));
+    for entry in [0, 17, 136, 300, 511] {
+        all.extend(slips(&[(&format!("entry_{entry}_wrong")[..], EntryWrong(entry))]));
+    }
+    all.extend(slips(&[
+        ("possible_inverted", PossibleInverted),
+        ("possible_asks_doors_closed", PossibleClosed),
+        ("possible_asks_doors_not_closed", PossibleNotClosed),
+        ("possible_always", PossibleAlways),
+        ("possible_of_next", PossibleOfNext),
+        ("next_and_present_swapped", NextAndPresent),
+        ("next_is_present", NextIsPresent),
+        ("next_gears_before_next_doors", NextGearsFirst),
+        ("handle_words_swapped", HandleWords),
+        ("open_and_closing_numbers_swapped", OpenAndClosingNumbers),
+        ("numbers_from_1", NumbersFrom1),
+        ("entries_from_1", EntriesFrom1),
+        ("wall_with_lf", WallLf),
+        ("wall_without_header", WallNoHeader),
+        ("wall_without_last_crlf", WallNoLastCrLf),
+        ("wall_in_lower_case", WallLowerCase),
+        ("page_without_grey", PageNoGrey),
+        ("page_grey_where_gears_move", PageGreyMoved),
+        ("page_without_else", PageNoElse),
+        ("page_else_swapped", PageThenElse),
+        ("page_names_no_fact", PageFactUnnamed),
+        ("page_names_a_fact_everywhere", PageFactTooMany),
+        ("page_names_another_fact", PageOtherFact),
+        ("page_bold_swapped", PageMovesKeeps),
+        ("page_spells_stays", PageStaysSpelt),
+        ("page_columns_swapped", PageColumns),
+        ("page_rows_swapped", PageRows),
+        ("page_handles_swapped", PageHandles),
+        ("page_numbers_of_next_place", PageNumbers),
+        ("page_lacks_first_place", PageLacks(0)),
+        ("page_lacks_last_place", PageLacks(31)),
+        ("page_has_a_place_twice", PageTwice(9)),
+    ]));
+    all
+}
+
+const FACTS: [&str; 4] = ["all_open", "all_closed", "all_extended", "all_retracted"];
+
 pub fn by_name(name: &str) -> Option<Rules> {
     let dumps = wave_faults().into_iter().chain(sheet_faults());
     let images = image_faults().into_iter().chain(unseen_in_images());
-    faults().into_iter().chain(unseen()).chain(dumps).chain(images).find(|f| f.0 == name).map(|f| f.1)
+    let mut all = faults().into_iter().chain(unseen()).chain(dumps).chain(images).chain(wall_faults());
+    all.find(|f| f.0 == name).map(|f| f.1)
 }

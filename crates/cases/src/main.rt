@@ -1,7 +1,8 @@
-// Runs stored cases and compares what is written with what is stored, byte for byte. Each argument names a case by what is stored:
-// NAME is the output of a trace (the module `outputs`), NAME.vcd the dump of a trace (`dumps`), NAME.csv the values of a dump
-// (`tables`), NAME.img the image that a trace leaves (`saves`), NAME.resumed the output of a trace from an image (`outputs`), NAME.txt
-// the words of an image (`images`). Each is run twice, in large parts and in parts of seven bytes.
+// Runs stored cases and compares what is written with what is stored, byte for byte. Each argument names a case by what is
+// stored: NAME is the output of a trace (the module `outputs`), NAME.vcd the dump of a trace (`dumps`), NAME.csv the values of a
+// dump (`tables`), NAME.img the image that a trace leaves (`saves`), NAME.resumed the output of a trace from an image (`outputs`),
+// NAME.txt the words of an image (`images`), NAME.wall the sequence's table (`walls`). Each is run twice, in large parts and in
+// parts of seven bytes.
 ghost use mathlib.Core.Path.{_≡_};
 ghost use lib.ListN.{length};
 
@@ -11,6 +12,7 @@ mod images;
 mod outputs;
 mod saves;
 mod tables;
+mod walls;
 
 use libc::STDOUT_FILENO;
 
@@ -56,6 +58,9 @@ fn case(path: &mut [u8], n: usize, input: &mut [u8], out: &mut [u8]) -> bool {
     }
     if let Stem::Name(name) = without(path, n, b".csv") {
         return tables::case(path, name, input, out);
+    }
+    if let Stem::Name(name) = without(path, n, b".wall") {
+        return walls::case(path, name, out);
     }
     image_case(path, n, input, out)
 }

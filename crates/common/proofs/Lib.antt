@@ -1,3 +1,4 @@
 pub mod Decimals
+pub mod Given
 pub mod Loops
 pub mod Pairs

@@ -4,6 +4,7 @@ pub mod Watched
 pub mod Lifted
 pub mod Safety
 pub mod Images
+pub mod Wall
 pub mod Ground
 pub mod Computing
 pub mod Worked

@@ -5,3 +5,4 @@ pub mod Cases
 pub mod Lesson
 pub mod AsPrinted
 pub mod HandedOver
+pub mod Wall

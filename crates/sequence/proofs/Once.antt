@@ -14,6 +14,14 @@ use Rattle.sequence.proofs.Gears.number.Kinds as gears-number-kinds
 use Rattle.sequence.proofs.Gears.number.Reads as gears-number-reads
 use Rattle.sequence.proofs.Gears.numbered.Kinds as gears-numbered-kinds
 use Rattle.sequence.proofs.Gears.numbered.Reads as gears-numbered-reads
+use Rattle.sequence.proofs.Asked.number.Kinds as asked-number-kinds
+use Rattle.sequence.proofs.Asked.number.Reads as asked-number-reads
+use Rattle.sequence.proofs.Asked.numbered.Kinds as asked-numbered-kinds
+use Rattle.sequence.proofs.Asked.numbered.Reads as asked-numbered-reads
+use Rattle.sequence.proofs.Asked.next.Kinds as asked-next-kinds
+use Rattle.sequence.proofs.Asked.next.Reads as asked-next-reads
+use Rattle.sequence.proofs.Place.possible.Kinds as place-possible-kinds
+use Rattle.sequence.proofs.Place.possible.Reads as place-possible-reads
 
 pub at-aim-once : OneAnswer 0 at-aim-kinds.ps at-aim-kinds.r at-aim-reads.Post
 at-aim-once κs a x y s t p q = p ∙ sym q
@@ -32,3 +40,15 @@ gears-number-once κs a x y s t p q = p ∙ sym q
 
 pub gears-numbered-once : OneAnswer 0 gears-numbered-kinds.ps gears-numbered-kinds.r gears-numbered-reads.Post
 gears-numbered-once κs a x y s t p q = p ∙ sym q
+
+pub asked-number-once : OneAnswer 0 asked-number-kinds.ps asked-number-kinds.r asked-number-reads.Post
+asked-number-once κs a x y s t p q = p ∙ sym q
+
+pub asked-numbered-once : OneAnswer 0 asked-numbered-kinds.ps asked-numbered-kinds.r asked-numbered-reads.Post
+asked-numbered-once κs a x y s t p q = p ∙ sym q
+
+pub asked-next-once : OneAnswer 0 asked-next-kinds.ps asked-next-kinds.r asked-next-reads.Post
+asked-next-once κs a x y s t p q = p ∙ sym q
+
+pub place-possible-once : OneAnswer 0 place-possible-kinds.ps place-possible-kinds.r place-possible-reads.Post
+place-possible-once κs a x y s t p q = p ∙ sym q

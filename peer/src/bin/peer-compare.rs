@@ -1,16 +1,18 @@
-//! `peer-compare SEED COUNT REPLAY [WAVES [SHEET [HANDOVER]]] [--stdout-only] [--no-waves] [--no-sheet]
-//! [--no-handover]`: the traces of seeds SEED, SEED+1, .. over all kinds in turn, through REPLAY and WAVES
-//! and through the peer, byte for byte; the dump of each and one more of each seed through SHEET and the
-//! peer; the image of each, what goes on from it and one more image of each seed through HANDOVER and the
-//! peer.
+//! `peer-compare SEED COUNT REPLAY [WAVES [SHEET [HANDOVER [WALL]]]] [--stdout-only] [--no-waves] [--no-sheet]
+//! [--no-handover] [--no-wall]`: the traces of seeds SEED, SEED+1, .. over all kinds in turn, through REPLAY
+//! and WAVES and through the peer, byte for byte; the dump of each and one more of each seed through SHEET and
+//! the peer; the image of each, what goes on from it and one more image of each seed through HANDOVER and the
+//! peer; once, before them, what WALL writes.
 use peer::damage::{dump, DUMP_KINDS};
 use peer::dump::{sheet_bytes, waves_bytes};
 use peer::gen::{trace, KINDS};
 use peer::handover::{handover_bytes, Said as Line, Task};
 use peer::image::{layout, BYTES};
 use peer::image_gen::{image, second_trace, IMAGE_KINDS};
+use peer::page::check;
 use peer::rules::Rules;
 use peer::trace::replay_bytes;
+use peer::wall::{check_csv, ENTRIES, PLACES};
 use std::collections::HashMap;
 use std::io::{Read, Write};
 use std::path::{Path, PathBuf};
@@ -44,8 +46,8 @@ enum Said {
     Anything,
     Lines(usize),
     Something(bool),
-    /// Nothing, or one line of `handover` with this in it.
-    Handover(Option<String>),
+    /// Nothing, or one line that begins with the program's name and has this in it.
+    Line(&'static str, Option<String>),
 }
 
 /// The first difference of two outputs: of images by item, of all else by line.
@@ -83,16 +85,17 @@ fn differs(ran: &Ran, wanted: &[u8], said: &Said) -> Option<String> {
         Said::Lines(count) if lines != *count => {
             Some(format!("{lines} lines on standard error, not {count}: {text}"))
         }
-        Said::Something(true) | Said::Handover(Some(_)) if lines == 0 => {
+        Said::Something(true) | Said::Line(_, Some(_)) if lines == 0 => {
             Some("no line on standard error".into())
         }
-        Said::Something(false) | Said::Handover(None) if !ran.err.is_empty() => {
+        Said::Something(false) | Said::Line(_, None) if !ran.err.is_empty() => {
             Some(format!("on standard error: {text}"))
         }
-        Said::Handover(Some(holds)) => {
+        Said::Line(name, Some(holds)) => {
             let line = String::from_utf8_lossy(&ran.err);
-            let plain = lines == 1 && line.starts_with("handover: ") && line.contains(&holds[..]);
-            (!plain).then(|| format!("not one line `handover: ..{holds}..` on standard error: {text}"))
+            let one = lines == 1 && line.ends_with('\n');
+            let plain = one && line.starts_with(&format!("{name}: ")) && line.contains(&holds[..]);
+            (!plain).then(|| format!("not one line `{name}: ..{holds}..` on standard error: {text}"))
         }
         _ => None,
     }
@@ -104,23 +107,24 @@ struct Programs {
     waves: Option<String>,
     sheet: Option<String>,
     handover: Option<String>,
+    wall: Option<String>,
     stdout_only: bool,
     /// Where images are put for `handover`.
     folder: PathBuf,
 }
 
-const USAGE: &str = "usage: compare SEED COUNT [REPLAY [WAVES [SHEET [HANDOVER]]]] \
-[--stdout-only] [--no-waves] [--no-sheet] [--no-handover]";
+const USAGE: &str = "usage: compare SEED COUNT [REPLAY [WAVES [SHEET [HANDOVER [WALL]]]]] \
+[--stdout-only] [--no-waves] [--no-sheet] [--no-handover] [--no-wall]";
 
 fn arguments() -> Result<(u64, u64, Programs), String> {
     let (flags, args): (Vec<String>, Vec<String>) =
         std::env::args().skip(1).partition(|a| a.starts_with("--"));
-    let known = ["--stdout-only", "--no-waves", "--no-sheet", "--no-handover"];
+    let known = ["--stdout-only", "--no-waves", "--no-sheet", "--no-handover", "--no-wall"];
     let number = |n: usize| args.get(n).and_then(|a: &String| a.parse::<u64>().ok());
     let (Some(seed), Some(count), Some(replay)) = (number(0), number(1), args.get(2)) else {
         return Err(USAGE.into());
     };
-    if args.len() > 6 || flags.iter().any(|f| !known.contains(&&f[..])) {
+    if args.len() > 7 || flags.iter().any(|f| !known.contains(&&f[..])) {
         return Err(USAGE.into());
     }
     let flag = |name: &str| flags.iter().any(|f| f == name);
@@ -138,9 +142,10 @@ fn arguments() -> Result<(u64, u64, Programs), String> {
     let waves = program(3, "waves", "--no-waves")?;
     let sheet = program(4, "sheet", "--no-sheet")?;
     let handover = program(5, "handover", "--no-handover")?;
+    let wall = program(6, "wall", "--no-wall")?;
     let folder = std::env::temp_dir().join(format!("peer-compare-{}", std::process::id()));
     let (replay, stdout_only) = (replay.clone(), flag("--stdout-only"));
-    Ok((seed, count, Programs { replay, waves, sheet, handover, stdout_only, folder }))
+    Ok((seed, count, Programs { replay, waves, sheet, handover, wall, stdout_only, folder }))
 }
 
 /// What went wrong: a difference with the way to repeat it, or a program that cannot be run.
@@ -309,7 +314,7 @@ impl Programs {
             });
             let word = told.split_whitespace().next().map(String::from);
             let args = word.into_iter().chain(at.cloned()).collect();
-            let (refused, said) = (said.is_some(), Said::Handover(holds));
+            let (refused, said) = (said.is_some(), Said::Line("handover", holds));
             let (peer, file) = ("peer-handover", if input.is_empty() { "/dev/null" } else { "trace.in" });
             Job { sort, program, args, told, peer, input: input.to_vec(), wanted, said, refused, make, file }
         };
@@ -325,6 +330,42 @@ impl Programs {
             job(Sort::SaveFrom, Task::SaveFrom(&saved), " save image.img", at, &second, make_second),
             job(Sort::Show(kind), Task::Show(&made), " show image.img", Some(&made_at), b"", make_made),
         ])
+    }
+
+    /// WALL: its CSV, its page, and what it says to bad use. It is not asked with an input.
+    fn of_wall(&self) -> Result<(), Wrong> {
+        let Some(program) = &self.wall else { return Ok(()) };
+        let rules = Rules::default();
+        let uses: [&[&str]; 6] = [&["csv"], &["page"], &[], &["poster"], &["csv", "page"], &["page", "page"]];
+        for args in uses {
+            let words: Vec<String> = args.iter().map(|word| word.to_string()).collect();
+            let ran = run(program, &words, b"")
+                .map_err(|e| Wrong::NotRun(format!("{program} cannot be run: {e}")))?;
+            let (what, said) = match args {
+                ["csv"] => (check_csv(&rules, &ran.out), None),
+                ["page"] => {
+                    let wrong: Vec<String> =
+                        check(&rules, &ran.out).iter().map(|w| format!("  {w}")).collect();
+                    ((!wrong.is_empty()).then(|| format!("the page disagrees\n{}", wrong.join("\n"))), None)
+                }
+                _ => (
+                    (!ran.out.is_empty()).then(|| "something on standard output".into()),
+                    Some(String::new()),
+                ),
+            };
+            let said = if self.stdout_only { Said::Anything } else { Said::Line("wall", said) };
+            // What it wrote is looked at already.
+            if let Some(what) = what.or_else(|| differs(&ran, &ran.out, &said)) {
+                let told = [&[&program[..]], args].concat().join(" ");
+                return Err(Wrong::Different(format!(
+                    "{told}: {what}
+to repeat it, in peer/:
+  {program} csv > wall.csv; {program} page > wall.svg
+  target/release/peer-wall check wall.csv wall.svg"
+                )));
+            }
+        }
+        Ok(())
     }
 
     /// Puts an image where a program finds it.
@@ -362,6 +403,10 @@ fn show(programs: &Programs, tallies: &Tallies) {
     } else {
         println!("sheet        left out");
     }
+    match programs.wall {
+        Some(_) => println!("wall: csv {ENTRIES:9} rows equal, page: {PLACES} places agree, bad use told"),
+        None => println!("wall         left out"),
+    }
     if programs.handover.is_none() {
         println!("handover     left out");
         return;
@@ -392,8 +437,10 @@ fn main() -> ExitCode {
     };
     let mut tallies = Tallies::default();
     let mut compare = || {
-        (seed..seed + count)
-            .try_for_each(|seed| programs.seed(seed, &mut tallies).map_err(|wrong| (seed, wrong)))
+        programs.of_wall().map_err(|wrong| (String::new(), wrong))?;
+        (seed..seed + count).try_for_each(|seed| {
+            programs.seed(seed, &mut tallies).map_err(|wrong| (format!("seed {seed}: "), wrong))
+        })
     };
     let compared = compare();
     // It is there only if an image was put into it.
@@ -403,8 +450,8 @@ fn main() -> ExitCode {
             show(&programs, &tallies);
             ExitCode::SUCCESS
         }
-        Err((seed, Wrong::Different(what))) => {
-            println!("DIFFERENT: seed {seed}: {what}");
+        Err((of, Wrong::Different(what))) => {
+            println!("DIFFERENT: {of}{what}");
             ExitCode::FAILURE
         }
         Err((_, Wrong::NotRun(what))) => {

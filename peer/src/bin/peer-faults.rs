@@ -3,6 +3,7 @@
 //! `peer-faults --dumps DIR`, `peer-faults --dump-seeds SEED COUNT`: the same for request K2, a table for
 //! the writer of dumps and one for the reader.
 //! `peer-faults --images DIR`, `peer-faults --image-seeds SEED COUNT`: the same for request K3, one table.
+//! `peer-faults --wall`: how many rows of the CSV of request K4, and places of its page, each fault changes.
 use peer::damage::{dump, DUMP_KINDS};
 use peer::dump::{moments, sheet_bytes, waves_bytes, write};
 use peer::dump_vectors::{stored_dumps, Vector};
@@ -11,8 +12,11 @@ use peer::handover::{handover_bytes, shown_or_refused, Task};
 use peer::image::BYTES;
 use peer::image_gen::{image, second_trace, IMAGE_KINDS};
 use peer::image_vectors::{stored_images, Folder};
+use peer::page::check;
 use peer::rules::{faults, image_faults, sheet_faults, unseen, unseen_in_images, wave_faults, Rules};
 use peer::trace::replay_bytes;
+use peer::wall::{all_faults, changed_rows, csv, page, ENTRIES, PLACES};
+use std::collections::HashSet;
 use std::path::Path;
 use std::process::ExitCode;
 
@@ -183,6 +187,26 @@ fn images(all: Folder, resume: fn(&Rules, &[u8]) -> Vec<u8>) -> ExitCode {
     status(missed + wrong)
 }
 
+/// The table on the wall: its faults are caught by the CSV or by the page.
+fn wall() -> ExitCode {
+    let sound = Rules::default();
+    println!("| fault | rows changed of {ENTRIES} | places disagree of {PLACES} |\n|---|---|---|");
+    let all = all_faults();
+    let mut missed = 0;
+    for (name, fault) in &all {
+        let rows = changed_rows(fault);
+        let wrong = check(&sound, page(fault).as_bytes());
+        let places = wrong.iter().filter_map(|wrong| wrong.place).collect::<HashSet<_>>().len();
+        let header = if rows == 0 && csv(fault) != csv(&sound) { ", but the header" } else { "" };
+        println!("| {name} | {rows}{header} | {places} |");
+        missed += usize::from(header.is_empty() && rows == 0 && wrong.is_empty());
+    }
+    let sound_page = check(&sound, page(&sound).as_bytes());
+    sound_page.iter().for_each(|wrong| eprintln!("no fault, and yet: {wrong}"));
+    println!("\n{} faults, {missed} caught by none.", all.len());
+    status(missed + sound_page.len())
+}
+
 fn kind_of(seed: u64, kinds: &[&'static str]) -> &'static str {
     kinds[(seed % kinds.len() as u64) as usize]
 }
@@ -259,6 +283,7 @@ fn main() -> ExitCode {
             }
             Err(e) => unread(dir, e),
         },
+        ["--wall"] => wall(),
         ["--image-seeds", seed, count] => seeded_images(range(seed, count)),
         ["--images", dir] => match stored_images(Path::new(dir)) {
             Ok(all) => images(all, resume),
@@ -269,7 +294,9 @@ fn main() -> ExitCode {
             Err(e) => unread(dir, e),
         },
         _ => {
-            eprintln!("usage: peer-faults [--dumps | --images] DIR | --seeds | --dump-seeds | --image-seeds SEED COUNT");
+            eprintln!(
+                "usage: peer-faults [--dumps | --images] DIR | --seeds | --dump-seeds | --image-seeds SEED COUNT | --wall"
+            );
             ExitCode::from(2)
         }
     }

@@ -1,0 +1,31 @@
+-- Request K4 at two places: the definition gives the lines that are wanted, byte for byte. By computing it.
+-- Assumes nothing.
+use mathlib.Core.List.{[], _∷_}
+use mathlib.Core.Path.{refl}
+use Rattle.common.specs.Case.{AllAsWanted}
+use Rattle.common.specs.Decimal.{decimal, decimalUpTo}
+use Rattle.sequence.specs.Moves.{atAim, nextGears, doorsToGears, doorsHome, moveOf}
+use Rattle.sequence.specs.Numbers.{doorsAt, gearsAt}
+use Rattle.sequence.specs.Table.{factsAt, askedAt, nextOf, possible}
+use Rattle.chart.specs.Differences.{placeOf, nextWith, samePlace, decides, decidingAt}
+use Rattle.chart.specs.Page.{
+  cornerText,
+  frameText,
+  numbersText,
+  whenText,
+  doorsText,
+  gearsText,
+  nextText,
+  otherwiseText,
+  bothText,
+  placeText,
+  lines,
+}
+use Rattle.chart.specs.PageCases.{openingLines, openingPlace, greyLines, greyPlace}
+
+pub places-as-wanted : AllAsWanted (openingPlace ∷ greyPlace ∷ [])
+unfolding decimal decimalUpTo atAim nextGears doorsToGears doorsHome moveOf doorsAt gearsAt factsAt askedAt nextOf possible
+    placeOf nextWith samePlace decides decidingAt
+    cornerText frameText numbersText whenText doorsText gearsText nextText otherwiseText bothText placeText lines
+    openingLines openingPlace greyLines greyPlace
+places-as-wanted = refl

@@ -1,0 +1,6 @@
+pub mod Cases
+pub mod Csv
+pub mod Differences
+pub mod Page
+pub mod PageCases
+pub mod Telling

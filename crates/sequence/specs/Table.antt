@@ -1,0 +1,121 @@
+-- Request K4: the sequence as a table of 512 entries. An entry is asked by handle, doors, gears and the four facts all open, all
+-- closed, all extended, all retracted, and it tells the next doors and gears.
+-- Assumes nothing.
+use Prim.Native.Nat.{ℕ, zero, suc, _+_, _*_, _/_, _%_}
+use mathlib.Core.Bool.{Bool, true, false}
+use mathlib.Core.List.{List, []}
+use lib.Dec.{eqb}
+use lib.ListN.{getD}
+use Rattle.common.specs.Case.{bit}
+use Rattle.common.specs.Lists.{givenFrom}
+use Rattle.sequence.specs.declared.Aim.{Aim}
+use Rattle.sequence.specs.declared.Aim.the-variants.{ToRetracted, ToExtended}
+use Rattle.sequence.specs.declared.Asked.{Asked}
+use Rattle.sequence.specs.declared.Doors.{Doors}
+use Rattle.sequence.specs.declared.Doors.the-variants.{Closed, Opening, Open, Closing}
+use Rattle.sequence.specs.declared.Gears.{Gears}
+use Rattle.sequence.specs.declared.Gears.the-variants.{Retracted, Extending, Extended, Retracting}
+use Rattle.sequence.specs.declared.Place.{Place}
+use Rattle.sequence.specs.declared.Seen.{Seen}
+use Rattle.sequence.specs.Moves.{place, aimOf, moveOf}
+use Rattle.sequence.specs.Numbers.{doorsNumber, gearsNumber, doorsAt, gearsAt}
+
+-- ---- The number of an entry
+
+-- Handle up is 0, down is 1.
+abbrev pub handleNumber : Aim → ℕ
+handleNumber ToRetracted = 0
+handleNumber ToExtended = 1
+
+-- The facts all open, all closed, all extended, all retracted, the first most significant.
+unfoldable pub factsNumber : Seen → ℕ
+factsNumber seen = 8 * bit (seen .opened) + 4 * bit (seen .closed) + 2 * bit (seen .extended) + bit (seen .retracted)
+
+-- Handle, doors, gears, and the facts, the first most significant.
+unfoldable pub numberOf : Asked → ℕ
+numberOf a =
+    256 * handleNumber (a .aim) +
+    64 * doorsNumber (a .place .doors) +
+    16 * gearsNumber (a .place .gears) +
+    factsNumber (a .seen)
+
+-- There are so many entries.
+abbrev pub entries : ℕ
+entries = 512
+
+-- ---- What is asked at a number
+
+-- Handle down, or a fact that is seen.
+abbrev pub isOne : ℕ → Bool
+isOne n = eqb n 1
+
+unfoldable pub factsAt : ℕ → Seen
+factsAt n =
+    record {
+      opened = isOne (n / 8 % 2);
+      closed = isOne (n / 4 % 2);
+      extended = isOne (n / 2 % 2);
+      retracted = isOne (n % 2);
+    }
+
+unfoldable pub askedAt : ℕ → Asked
+askedAt n =
+    record {
+      aim = aimOf (isOne (n / 256 % 2));
+      place = place (doorsAt (n / 64 % 4)) (gearsAt (n / 16 % 4));
+      seen = factsAt n;
+    }
+
+-- ---- The table
+
+-- What comes next, by the rule of document 01.
+unfoldable pub nextOf : Asked → Place
+nextOf a = moveOf (a .aim) (a .place) (a .seen)
+
+-- An entry holds doors and gears as one number.
+unfoldable pub placeNumber : Place → ℕ
+placeNumber p = 4 * doorsNumber (p .doors) + gearsNumber (p .gears)
+
+unfoldable pub placeAt : ℕ → Place
+placeAt n = place (doorsAt (n / 4)) (gearsAt (n % 4))
+
+-- The entry that the rule gives at a number.
+unfoldable pub ruledAt : ℕ → ℕ
+ruledAt n = placeNumber (nextOf (askedAt n))
+
+-- All 512 entries, in 64 rows of eight.
+unfoldable pub rowAt : ℕ → List ℕ
+rowAt k = givenFrom ruledAt (8 * k) 8
+
+unfoldable pub table : List (List ℕ)
+table = givenFrom rowAt 0 64
+
+-- What the table tells at a number.
+unfoldable pub entryAt : ℕ → Place
+entryAt n = placeAt (getD (getD table (n / 8) []) (n % 8) 0)
+
+-- ---- Entries that can be asked
+
+abbrev pub isOpen : Doors → Bool
+isOpen Closed = false
+isOpen Opening = false
+isOpen Open = true
+isOpen Closing = false
+
+-- Gears move with doors OPEN only, so no reached state stands at any other place of moving gears.
+abbrev possibleWith : Gears → Doors → Bool
+possibleWith Retracted doors = true
+possibleWith Extending doors = isOpen doors
+possibleWith Extended doors = true
+possibleWith Retracting doors = isOpen doors
+
+unfoldable pub possible : Place → Bool
+possible p = possibleWith (p .gears) (p .doors)
+
+unfoldable pub canBeAsked : ℕ → Bool
+canBeAsked n = possible (askedAt n .place)
+
+-- How many numbers below this one pass a test.
+unfoldable pub howMany : (ℕ → Bool) → ℕ → ℕ
+howMany test zero = 0
+howMany test (suc n) = bit (test n) + howMany test n

@@ -1,0 +1,253 @@
+// The sequence as a table (specs/Table.antt; request K4).
+ghost use mathlib.Core.Path.{_≡_};
+ghost use Prim.Native.Nat.{_<_, _/_, _%_};
+ghost use mathlib.Core.List.{[]};
+ghost use lib.ListN.{getD};
+ghost use Rattle.sequence.specs.Moves.{aimOf};
+ghost use Rattle.sequence.specs.Table.{
+  handleNumber,
+  factsNumber,
+  numberOf,
+  factsAt,
+  askedAt,
+  nextOf,
+  placeAt,
+  table,
+  isOpen,
+  possible,
+};
+use crate::Aim;
+use crate::Asked;
+use crate::Doors;
+use crate::Gears;
+use crate::Place;
+use crate::Seen;
+
+// The next doors and gears: 4 times the doors' number and the gears'. Two rows for each place of handle, doors and gears, the
+// second with all open; in a row an entry for each set of the other facts: all closed (4), all extended (2), all retracted (1).
+const NEXT: [[u8; 8]; 64] = [
+    // handle up, doors CLOSED, gears RETRACTED
+    [0, 0, 0, 0, 0, 0, 0, 0],
+    [0, 0, 0, 0, 0, 0, 0, 0],
+    // handle up, doors CLOSED, gears EXTENDING
+    [5, 5, 5, 5, 5, 5, 5, 5],
+    [5, 5, 5, 5, 5, 5, 5, 5],
+    // handle up, doors CLOSED, gears EXTENDED
+    [6, 6, 6, 6, 6, 6, 6, 6],
+    [6, 6, 6, 6, 6, 6, 6, 6],
+    // handle up, doors CLOSED, gears RETRACTING
+    [7, 7, 7, 7, 7, 7, 7, 7],
+    [7, 7, 7, 7, 7, 7, 7, 7],
+    // handle up, doors OPENING, gears RETRACTED
+    [12, 12, 12, 12, 12, 12, 12, 12],
+    [12, 12, 12, 12, 12, 12, 12, 12],
+    // handle up, doors OPENING, gears EXTENDING
+    [5, 5, 5, 5, 5, 5, 5, 5],
+    [9, 9, 9, 9, 9, 9, 9, 9],
+    // handle up, doors OPENING, gears EXTENDED
+    [6, 6, 6, 6, 6, 6, 6, 6],
+    [10, 10, 10, 10, 10, 10, 10, 10],
+    // handle up, doors OPENING, gears RETRACTING
+    [7, 7, 7, 7, 7, 7, 7, 7],
+    [11, 11, 11, 11, 11, 11, 11, 11],
+    // handle up, doors OPEN, gears RETRACTED
+    [12, 12, 12, 12, 12, 12, 12, 12],
+    [12, 12, 12, 12, 12, 12, 12, 12],
+    // handle up, doors OPEN, gears EXTENDING
+    [11, 11, 11, 11, 11, 11, 11, 11],
+    [11, 11, 11, 11, 11, 11, 11, 11],
+    // handle up, doors OPEN, gears EXTENDED
+    [11, 11, 11, 11, 11, 11, 11, 11],
+    [11, 11, 11, 11, 11, 11, 11, 11],
+    // handle up, doors OPEN, gears RETRACTING
+    [11, 8, 11, 8, 11, 8, 11, 8],
+    [11, 8, 11, 8, 11, 8, 11, 8],
+    // handle up, doors CLOSING, gears RETRACTED
+    [12, 12, 12, 12, 0, 0, 0, 0],
+    [12, 12, 12, 12, 0, 0, 0, 0],
+    // handle up, doors CLOSING, gears EXTENDING
+    [5, 5, 5, 5, 5, 5, 5, 5],
+    [5, 5, 5, 5, 5, 5, 5, 5],
+    // handle up, doors CLOSING, gears EXTENDED
+    [6, 6, 6, 6, 6, 6, 6, 6],
+    [6, 6, 6, 6, 6, 6, 6, 6],
+    // handle up, doors CLOSING, gears RETRACTING
+    [7, 7, 7, 7, 7, 7, 7, 7],
+    [7, 7, 7, 7, 7, 7, 7, 7],
+    // handle down, doors CLOSED, gears RETRACTED
+    [4, 4, 4, 4, 4, 4, 4, 4],
+    [4, 4, 4, 4, 4, 4, 4, 4],
+    // handle down, doors CLOSED, gears EXTENDING
+    [5, 5, 5, 5, 5, 5, 5, 5],
+    [5, 5, 5, 5, 5, 5, 5, 5],
+    // handle down, doors CLOSED, gears EXTENDED
+    [2, 2, 2, 2, 2, 2, 2, 2],
+    [2, 2, 2, 2, 2, 2, 2, 2],
+    // handle down, doors CLOSED, gears RETRACTING
+    [7, 7, 7, 7, 7, 7, 7, 7],
+    [7, 7, 7, 7, 7, 7, 7, 7],
+    // handle down, doors OPENING, gears RETRACTED
+    [4, 4, 4, 4, 4, 4, 4, 4],
+    [8, 8, 8, 8, 8, 8, 8, 8],
+    // handle down, doors OPENING, gears EXTENDING
+    [5, 5, 5, 5, 5, 5, 5, 5],
+    [9, 9, 9, 9, 9, 9, 9, 9],
+    // handle down, doors OPENING, gears EXTENDED
+    [14, 14, 14, 14, 14, 14, 14, 14],
+    [14, 14, 14, 14, 14, 14, 14, 14],
+    // handle down, doors OPENING, gears RETRACTING
+    [7, 7, 7, 7, 7, 7, 7, 7],
+    [11, 11, 11, 11, 11, 11, 11, 11],
+    // handle down, doors OPEN, gears RETRACTED
+    [9, 9, 9, 9, 9, 9, 9, 9],
+    [9, 9, 9, 9, 9, 9, 9, 9],
+    // handle down, doors OPEN, gears EXTENDING
+    [9, 9, 10, 10, 9, 9, 10, 10],
+    [9, 9, 10, 10, 9, 9, 10, 10],
+    // handle down, doors OPEN, gears EXTENDED
+    [14, 14, 14, 14, 14, 14, 14, 14],
+    [14, 14, 14, 14, 14, 14, 14, 14],
+    // handle down, doors OPEN, gears RETRACTING
+    [9, 9, 9, 9, 9, 9, 9, 9],
+    [9, 9, 9, 9, 9, 9, 9, 9],
+    // handle down, doors CLOSING, gears RETRACTED
+    [4, 4, 4, 4, 4, 4, 4, 4],
+    [4, 4, 4, 4, 4, 4, 4, 4],
+    // handle down, doors CLOSING, gears EXTENDING
+    [5, 5, 5, 5, 5, 5, 5, 5],
+    [5, 5, 5, 5, 5, 5, 5, 5],
+    // handle down, doors CLOSING, gears EXTENDED
+    [14, 14, 14, 14, 2, 2, 2, 2],
+    [14, 14, 14, 14, 2, 2, 2, 2],
+    // handle down, doors CLOSING, gears RETRACTING
+    [7, 7, 7, 7, 7, 7, 7, 7],
+    [7, 7, 7, 7, 7, 7, 7, 7],
+];
+
+// Handle up is 0, down is 1.
+fn handle_number(aim: Aim) -> usize
+    ensures { λ r. ⌜ r ≡ handleNumber aim ⌝ }
+{
+    match aim {
+        Aim::ToRetracted => 0,
+        Aim::ToExtended => 1,
+    }
+}
+
+// The facts as a number: all open, all closed, all extended, all retracted, the first most significant.
+fn facts_number(seen: Seen) -> usize
+    ensures { λ r. ⌜ r ≡ factsNumber seen ⌝ }
+{
+    8 * (seen.opened as usize)
+        + 4 * (seen.closed as usize)
+        + 2 * (seen.extended as usize)
+        + (seen.retracted as usize)
+}
+
+// What is seen at a number.
+fn facts_at(n: usize) -> Seen
+    ensures { λ r. ⌜ r ≡ factsAt n ⌝ }
+{
+    Seen {
+        opened: n / 8 % 2 == 1,
+        closed: n / 4 % 2 == 1,
+        extended: n / 2 % 2 == 1,
+        retracted: n % 2 == 1,
+    }
+}
+
+// What the handle aims at.
+fn aim_of(down: bool) -> Aim
+    ensures { λ r. ⌜ r ≡ aimOf down ⌝ }
+{
+    if down {
+        Aim::ToExtended
+    } else {
+        Aim::ToRetracted
+    }
+}
+
+// The doors and gears that an entry holds.
+fn place_at(entry: u8) -> Place
+    ensures { λ r. ⌜ r ≡ placeAt entry ⌝ }
+{
+    Place {
+        doors: Doors::numbered((entry / 4) as u32),
+        gears: Gears::numbered((entry % 4) as u32),
+    }
+}
+
+// The entry of a number.
+fn entry(n: usize) -> u8
+    requires { ⌜ n < 512 ⌝ }
+    ensures { λ r. ⌜ r ≡ getD (getD table (n / 8) []) (n % 8) 0 ⌝ }
+{
+    NEXT[n / 8][n % 8]
+}
+
+impl Asked {
+    // The number of the entry, 0 to 511.
+    pub fn number(self) -> usize
+        ensures { λ r. ⌜ r ≡ numberOf self ⌝ }
+    {
+        let place = self.place;
+        let doors = place.doors;
+        let gears = place.gears;
+        let aim = self.aim;
+        let facts = facts_number(self.seen);
+        256 * handle_number(aim)
+            + 64 * (doors.number() as usize)
+            + 16 * (gears.number() as usize)
+            + facts
+    }
+
+    // What is asked at a number.
+    pub fn numbered(n: usize) -> Self
+        ensures { λ r. ⌜ r ≡ askedAt n ⌝ }
+    {
+        let place = Place {
+            doors: Doors::numbered((n / 64 % 4) as u32),
+            gears: Gears::numbered((n / 16 % 4) as u32),
+        };
+        Asked {
+            aim: aim_of(n / 256 % 2 == 1),
+            place,
+            seen: facts_at(n),
+        }
+    }
+
+    // The next doors and gears: what the table tells.
+    pub fn next(self) -> Place
+        ensures { λ r. ⌜ r ≡ nextOf self ⌝ }
+    {
+        place_at(entry(self.number()))
+    }
+}
+
+// Whether the doors are OPEN.
+fn are_open(doors: Doors) -> bool
+    ensures { λ r. ⌜ r ≡ isOpen doors ⌝ }
+{
+    match doors {
+        Doors::Closed => false,
+        Doors::Opening => false,
+        Doors::Open => true,
+        Doors::Closing => false,
+    }
+}
+
+impl Place {
+    // Whether a reached state can stand here: moving gears have doors OPEN.
+    pub fn possible(self) -> bool
+        ensures { λ r. ⌜ r ≡ possible self ⌝ }
+    {
+        let doors = self.doors;
+        let gears = self.gears;
+        match gears {
+            Gears::Retracted => true,
+            Gears::Extending => are_open(doors),
+            Gears::Extended => true,
+            Gears::Retracting => are_open(doors),
+        }
+    }
+}
