@@ -7,7 +7,8 @@ use Rattle.common.specs.Ascii.{comma, joinedByCommas}
 use Rattle.common.specs.Decimal.{decimal}
 use Rattle.sequence.specs.declared.Asked.{Asked}
 use Rattle.sequence.specs.declared.Place.{Place}
-use Rattle.sequence.specs.Table.{askedAt, nextOf, possible}
+use Rattle.sequence.specs.Table.{askedAt, nextOf}
+use Rattle.sequence.specs.Places.{movingHaveOpen}
 use Rattle.output.specs.Rows.{crlf, onOff}
 use Rattle.chart.specs.Csv.{placeFields, askedFields, laterFields, csvRow}
 
@@ -39,9 +40,9 @@ row-fields f xs ys zs = rw (joined f ((xs ++ ys) ++ zs), ← later-three xs ys z
 
 -- A row: its number, what is asked, what comes next, and its end.
 pub row-text : (n : ℕ) (a : Asked) (next : Place) (last : List ℕ) → a ≡ askedAt n → next ≡ nextOf a
-    → last ≡ laterFields (onOff (possible (a .place)) ∷ []) ++ crlf
+    → last ≡ laterFields (onOff (movingHaveOpen (a .place)) ∷ []) ++ crlf
     → ((decimal n ++ laterFields (askedFields a)) ++ laterFields (placeFields next)) ++ last ≡ csvRow n
 unfolding csvRow
 row-text n a next last e f g =
     let b = askedAt n in
-    rw (g, f, e) (row-fields (decimal n) (askedFields b) (placeFields (nextOf b)) (onOff (possible (b .place)) ∷ []))
+    rw (g, f, e) (row-fields (decimal n) (askedFields b) (placeFields (nextOf b)) (onOff (movingHaveOpen (b .place)) ∷ []))

@@ -6,7 +6,8 @@ use Rattle.common.specs.Case.{AllAsWanted}
 use Rattle.common.specs.Decimal.{decimal, decimalUpTo}
 use Rattle.sequence.specs.Moves.{atAim, nextGears, doorsToGears, doorsHome, moveOf}
 use Rattle.sequence.specs.Numbers.{doorsAt, gearsAt}
-use Rattle.sequence.specs.Table.{factsAt, askedAt, nextOf, possible}
+use Rattle.sequence.specs.Table.{factsAt, askedAt, nextOf}
+use Rattle.sequence.specs.Places.{movingHaveOpen}
 use Rattle.chart.specs.Differences.{placeOf, nextWith, samePlace, decides, decidingAt}
 use Rattle.chart.specs.Page.{
   cornerText,
@@ -24,7 +25,7 @@ use Rattle.chart.specs.Page.{
 use Rattle.chart.specs.PageCases.{openingLines, openingPlace, greyLines, greyPlace}
 
 pub places-as-wanted : AllAsWanted (openingPlace ∷ greyPlace ∷ [])
-unfolding decimal decimalUpTo atAim nextGears doorsToGears doorsHome moveOf doorsAt gearsAt factsAt askedAt nextOf possible
+unfolding decimal decimalUpTo atAim nextGears doorsToGears doorsHome moveOf doorsAt gearsAt factsAt askedAt nextOf movingHaveOpen
     placeOf nextWith samePlace decides decidingAt
     cornerText frameText numbersText whenText doorsText gearsText nextText otherwiseText bothText placeText lines
     openingLines openingPlace greyLines greyPlace

@@ -6,11 +6,12 @@ use Rattle.common.specs.Case.{AllAsWanted}
 use Rattle.common.specs.Decimal.{decimal, decimalUpTo}
 use Rattle.sequence.specs.Moves.{atAim, nextGears, doorsToGears, doorsHome, moveOf}
 use Rattle.sequence.specs.Numbers.{doorsAt, gearsAt}
-use Rattle.sequence.specs.Table.{factsAt, askedAt, nextOf, possible}
+use Rattle.sequence.specs.Table.{factsAt, askedAt, nextOf}
+use Rattle.sequence.specs.Places.{movingHaveOpen}
 use Rattle.chart.specs.Cases.{tableLines}
 use Rattle.chart.specs.Csv.{csvHeader, csvRow}
 
 pub table-lines : AllAsWanted tableLines
 unfolding tableLines csvHeader csvRow joinedByCommas decimal decimalUpTo
-    askedAt factsAt doorsAt gearsAt nextOf moveOf atAim nextGears doorsToGears doorsHome possible
+    askedAt factsAt doorsAt gearsAt nextOf moveOf atAim nextGears doorsToGears doorsHome movingHaveOpen
 table-lines = refl

@@ -13,7 +13,8 @@ use Rattle.sequence.specs.declared.Gears.{Gears}
 use Rattle.sequence.specs.declared.Place.{Place}
 use Rattle.sequence.specs.declared.Seen.{Seen}
 use Rattle.sequence.specs.Numbers.{doorsNumber, gearsNumber}
-use Rattle.sequence.specs.Table.{handleNumber, entries, askedAt, nextOf, possible}
+use Rattle.sequence.specs.Table.{handleNumber, entries, askedAt, nextOf}
+use Rattle.sequence.specs.Places.{movingHaveOpen}
 use Rattle.output.specs.Rows.{crlf, onOff, doorsWord, gearsWord}
 
 -- ---- Fields
@@ -43,7 +44,7 @@ askedFields a = handleFields (a .aim) ++ placeFields (a .place) ++ factFields (a
 
 -- The entry's number; what is asked; what comes next; and 1 if a reached state can ask it.
 abbrev pub rowFields : ℕ → Asked → List (List ℕ)
-rowFields n a = decimal n ∷ (askedFields a ++ placeFields (nextOf a) ++ onOff (possible (a .place)) ∷ [])
+rowFields n a = decimal n ∷ (askedFields a ++ placeFields (nextOf a) ++ onOff (movingHaveOpen (a .place)) ∷ [])
 
 -- ---- The text
 

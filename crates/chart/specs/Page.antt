@@ -11,7 +11,7 @@ use Rattle.common.specs.Lists.{givenFrom}
 use Rattle.sequence.specs.declared.Doors.{Doors}
 use Rattle.sequence.specs.declared.Gears.{Gears}
 use Rattle.sequence.specs.declared.Place.{Place}
-use Rattle.sequence.specs.Table.{possible}
+use Rattle.sequence.specs.Places.{movingHaveOpen}
 use Rattle.output.specs.Rows.{doorsWord, gearsWord}
 use Rattle.chart.specs.declared.differences.Deciding.{Deciding}
 use Rattle.chart.specs.declared.differences.Deciding.the-variants.{Nothing, AllOpen, AllClosed, AllExtended, AllRetracted}
@@ -52,7 +52,7 @@ frameClass false = ascii "never"
 
 unfoldable pub frameText : ℕ → List ℕ
 frameText k =
-    ascii "<g class='" ++ frameClass (possible (placeOf k)) ++ ascii "' transform='translate(" ++ cornerText k ++ line (ascii ")'>")
+    ascii "<g class='" ++ frameClass (movingHaveOpen (placeOf k)) ++ ascii "' transform='translate(" ++ cornerText k ++ line (ascii ")'>")
     ++ line (ascii "<rect width='590' height='365'/>")
 
 -- The numbers of its entries.

@@ -131,7 +131,7 @@ fn put_row(text: &mut [u8], at: usize, n: usize) -> usize
     let asked = Asked::numbered(n);
     let place = asked.place;
     let next = asked.next();
-    let last = last_piece(place.possible());
+    let last = last_piece(place.moving_have_open());
     let numbered = put_number(text, at, n);
     let told = put_asked(text, numbered, asked);
     let done = put_place(text, told, next);

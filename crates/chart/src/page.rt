@@ -123,7 +123,7 @@ fn put_frame(text: &mut [u8], at: usize, k: usize) -> usize
 {
     let place = differences::place_of(k);
     let opened = put(text, at, b"<g class='");
-    let classed = put_frame_class(text, opened, place.possible());
+    let classed = put_frame_class(text, opened, place.moving_have_open());
     let moved = put(text, classed, b"' transform='translate(");
     let placed = put_corner(text, moved, k);
     put(text, placed, b")'>\n<rect width='590' height='365'/>\n")

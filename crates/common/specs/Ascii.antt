@@ -15,6 +15,16 @@ ascii (String._∷_ c s) = List._∷_ (code c) (ascii s)
 abbrev pub comma : ℕ
 comma = 44
 
+-- A row of a trace or of the output ends in CR and LF; a line of a dump, of an image in plain words and of the wall's page in LF.
+abbrev pub cr : ℕ
+cr = 13
+
+abbrev pub lf : ℕ
+lf = 10
+
+abbrev pub crlf : List ℕ
+crlf = cr ∷ lf ∷ []
+
 -- The fields with a comma between each two: the text that they are the fields of.
 unfoldable pub joinedByCommas : List (List ℕ) → List ℕ
 joinedByCommas [] = []

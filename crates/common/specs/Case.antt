@@ -1,6 +1,5 @@
 -- A worked case: its name, what a rule gives, and what document 01 says that it gives.
 -- Assumes nothing.
-use mathlib.Core.Bool.{Bool, true, false}
 use mathlib.Core.List.{List, map}
 use mathlib.Core.Path.{_≡_}
 use Prim.Native.Nat.{ℕ}
@@ -14,8 +13,3 @@ pub record Case : Type 0 where
 -- Every case of a list gives what is wanted.
 abbrev pub AllAsWanted : List Case → Type 0
 AllAsWanted cases = map (λ (c : Case). c .gives) cases ≡ map (λ (c : Case). c .wanted) cases
-
--- A truth value as a number.
-abbrev pub bit : Bool → ℕ
-bit true = 1
-bit false = 0

@@ -1,5 +1,6 @@
 pub mod Answers
 pub mod Ascii
+pub mod Bits
 pub mod Case
 pub mod Decimal
 pub mod Lists

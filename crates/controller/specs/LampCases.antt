@@ -8,7 +8,8 @@ use Prim.Native.String.{String}
 use lib.Dec.{eqb}
 use lib.ListN.{replicate}
 use Rattle.common.specs.Ascii.{ascii}
-use Rattle.common.specs.Case.{Case, bit}
+use Rattle.common.specs.Bits.{bit}
+use Rattle.common.specs.Case.{Case}
 use Rattle.voter.specs.declared.Voter.{Voter}
 use Rattle.voter.specs.Voting.{freshWith}
 use Rattle.controller.specs.Lamps.{greenOf, orangeOf}

@@ -1,10 +1,9 @@
 -- What a state shows, by the words of document 01 and request K3: the laws and the rules of an image speak of these.
 -- Assumes nothing.
-use mathlib.Core.Bool.{Bool, true, false, not}
+use mathlib.Core.Bool.{Bool, not}
 use Rattle.sequence.specs.declared.Doors.{Doors}
-use Rattle.sequence.specs.declared.Doors.the-variants.{Closed, Opening, Open, Closing}
 use Rattle.sequence.specs.declared.Gears.{Gears}
-use Rattle.sequence.specs.declared.Gears.the-variants.{Retracted, Extending, Extended, Retracting}
+use Rattle.sequence.specs.Places.{areMoving}
 use Rattle.controller.specs.declared.State.{State}
 use Rattle.controller.specs.Votes.{someInvalid}
 use Rattle.controller.specs.Stages.{anomaly}
@@ -34,20 +33,7 @@ doorsOf s = s .core .place .doors
 abbrev pub gearsOf : State → Gears
 gearsOf s = s .core .place .gears
 
--- Doors OPEN.
-abbrev pub areOpen : Doors → Bool
-areOpen Closed = false
-areOpen Opening = false
-areOpen Open = true
-areOpen Closing = false
-
 -- Gears EXTENDING or RETRACTING.
-abbrev pub areMoving : Gears → Bool
-areMoving Retracted = false
-areMoving Extending = true
-areMoving Extended = false
-areMoving Retracting = true
-
 abbrev pub gearsMove : State → Bool
 gearsMove s = areMoving (gearsOf s)
 

@@ -13,13 +13,13 @@ use Rattle.sequence.specs.declared.Gears.the-variants.{Extended}
 use Rattle.sequence.specs.Moves.{place}
 use Rattle.orders.specs.declared.Order.{Order}
 use Rattle.orders.specs.declared.Orders.{Orders}
-use Rattle.orders.specs.Timing.{order}
+use Rattle.orders.specs.Timing.{order, oldest}
 use Rattle.controller.specs.declared.Core.{Core}
 use Rattle.controller.specs.declared.State.{State}
 
 -- Off, with age 60,000.
 unfoldable pub offLong : Order
-offLong = order false 60000
+offLong = order false oldest
 
 -- Five orders off.
 unfoldable pub freshOrders : Orders
@@ -27,7 +27,7 @@ freshOrders = record { general = offLong; closes = offLong; opens = offLong; ret
 
 -- Doors CLOSED, gears EXTENDED, no anomaly.
 unfoldable pub freshCore : Core
-freshCore = record { orders = freshOrders; since = 60000; place = place Closed Extended; cause = 0 }
+freshCore = record { orders = freshOrders; since = oldest; place = place Closed Extended; cause = 0 }
 
 -- All channels valid; handle held down, gear_extended and door_closed held 1, the others held 0. In the sample's order.
 unfoldable pub freshVoters : List Voter

@@ -9,6 +9,7 @@ mod lamps;
 mod stages;
 mod votes;
 
+use orders::OLDEST;
 use orders::Order;
 use orders::Orders;
 use sequence::Doors;
@@ -65,7 +66,7 @@ fn fresh_orders() -> Orders
 {
     let off = Order {
         on: false,
-        age: 60000,
+        age: OLDEST,
     };
     Orders {
         general: off,
@@ -136,7 +137,7 @@ impl State {
         };
         let core = Core {
             orders: fresh_orders(),
-            since: 60000,
+            since: OLDEST,
             place,
             cause: 0,
         };

@@ -6,7 +6,7 @@ use mathlib.Core.List.{List, [], _∷_, _++_}
 use mathlib.Core.Path.{_≡_}
 use lib.ListN.{length}
 use Rattle.common.specs.Ascii.{ascii}
-use Rattle.common.specs.Case.{bit}
+use Rattle.common.specs.Bits.{bit}
 use Rattle.common.specs.Decimal.{decimal, digit0}
 use Rattle.dump.specs.Wires.{wireNames, wires, firstCode}
 

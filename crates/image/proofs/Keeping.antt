@@ -10,22 +10,12 @@ use mir.Facts.{and-yes, yes-and}
 use Rattle.sequence.specs.declared.Doors.{Doors}
 use Rattle.sequence.specs.declared.Doors.the-variants.{Closed, Opening, Open, Closing}
 use Rattle.orders.specs.declared.Wanted.{Wanted}
-use Rattle.orders.specs.Timing.{areClosed, wantedOf}
+use Rattle.orders.specs.Timing.{wantedOf}
+use Rattle.sequence.specs.Places.{areClosed, areOpen, movingHaveOpen}
 use Rattle.controller.specs.declared.State.{State}
 use Rattle.controller.specs.Start.{startedAt}
 use Rattle.controller.specs.Stages.{anomaly}
-use Rattle.controller.specs.Shows.{
-  generalEV,
-  closeEV,
-  openEV,
-  retractEV,
-  extendEV,
-  doorsOf,
-  areOpen,
-  gearsMove,
-  red,
-  invalidSensor,
-}
+use Rattle.controller.specs.Shows.{generalEV, closeEV, openEV, retractEV, extendEV, doorsOf, gearsMove, red, invalidSensor}
 use Rattle.image.specs.Rules.{implies, rules, every, rulesHold}
 use Rattle.image.specs.Conditions.{OpenDoorsHaveGeneral, KeepsRules}
 
@@ -111,7 +101,7 @@ on-both on wanted general w g = so-implies on (wanted && general) (λ o. yes-and
 module _ (s : State) where
   -- Where every test holds the rules are kept ..
   pub tests-keep : T (rulesHold s) → KeepsRules s
-  unfolding rulesHold rules AllHold
+  unfolding rulesHold rules AllHold movingHaveOpen
   tests-keep h =
       let test = all-hold (rules s) h in
       let wanted : Wanted = wantedOf (s .core .place) (red s) in
@@ -144,7 +134,7 @@ module _ (s : State) where
 
   -- .. and where they are kept every test holds.
   pub keeps-tests : KeepsRules s → T (rulesHold s)
-  unfolding rulesHold rules AllHold
+  unfolding rulesHold rules AllHold movingHaveOpen
   keeps-tests keeps =
       let wanted : Wanted = wantedOf (s .core .place) (red s) in
       let general : Bool = generalEV s in

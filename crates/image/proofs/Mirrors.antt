@@ -9,7 +9,7 @@ use lib.Dec.{T, leb, leb→le, lit<}
 use lib.ListN.{length, take, drop, take-append-drop, drop-of-length-le}
 use lib.Seq.{take-at, drop-at, drop-cons}
 use mir.Facts.{and-yes}
-use Rattle.common.specs.Case.{bit}
+use Rattle.common.specs.Bits.{bit}
 use Rattle.voter.specs.declared.Voter.{Voter}
 use Rattle.voter.specs.Voting.{valueOf}
 use Rattle.voter.specs.Numbers.{lastNumber as lastVoter}
@@ -18,23 +18,8 @@ use Rattle.sequence.proofs.Numbering.{doors-at-number, gears-at-number, number-
 use Rattle.controller.specs.declared.Core.{Core}
 use Rattle.controller.specs.declared.State.{State}
 use Rattle.controller.specs.Start.{startedAt}
-use Rattle.image.specs.Items.{
-  sensorItems,
-  orderItems,
-  ordersItems,
-  restItems,
-  coreItems,
-  itemsOf,
-  sensorTops,
-  coreTops,
-  tops,
-  within,
-  isOne,
-  sensorsIn,
-  itemAt,
-  coreIn,
-  stateIn,
-}
+use Rattle.image.specs.Items.{sensorItems, orderItems, ordersItems, restItems, coreItems, itemsOf, sensorTops, coreTops, tops, within, sensorsIn, itemAt, coreIn, stateIn}
+use Rattle.common.specs.Bits.{isOne}
 use Rattle.image.proofs.Ranged.{UpTo, within-length, within-up-to, within-parts}
 
 -- ---- A truth value

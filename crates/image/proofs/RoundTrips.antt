@@ -10,7 +10,7 @@ use lib.Dec.{T, leb, ltb, ltb→lt, le→leb, lit≤, lit<}
 use lib.ListN.{length, drop, length-append}
 use lib.Seq.{drop-cons}
 use mir.Facts.{and-yes, yes-and}
-use Rattle.common.specs.Case.{bit}
+use Rattle.common.specs.Bits.{bit}
 use Rattle.voter.specs.declared.Voter.{Voter}
 use Rattle.voter.specs.Voting.{valueOf}
 use Rattle.voter.specs.Numbers.{numberOf, lastNumber as lastVoter}
@@ -24,23 +24,8 @@ use Rattle.controller.specs.declared.State.{State}
 use Rattle.controller.specs.declared.Answer.{Answer}
 use Rattle.controller.specs.Start.{startedAt}
 use Rattle.image.specs.Xdr.{fourBytes, bytesOf, itemsIn}
-use Rattle.image.specs.Items.{
-  sensorItems,
-  orderItems,
-  ordersItems,
-  restItems,
-  coreItems,
-  itemsOf,
-  sensorTops,
-  oldest,
-  lastCause,
-  coreTops,
-  tops,
-  within,
-  itemAt,
-  coreIn,
-  stateIn,
-}
+use Rattle.image.specs.Items.{sensorItems, orderItems, ordersItems, restItems, coreItems, itemsOf, sensorTops, lastCause, coreTops, tops, within, itemAt, coreIn, stateIn}
+use Rattle.orders.specs.Timing.{oldest}
 use Rattle.image.specs.Rules.{every}
 use Rattle.image.specs.Images.{size, imageOf, loadedAt, loadOf}
 use Rattle.image.specs.Conditions.{AgesTo60000, CausesTo13, Allowed, AllBelow, AllBytes, Taken}

@@ -10,7 +10,8 @@ use lib.ListN.{length, getD, set, take, drop, length-take, length-drop, drop-of-
 use lib.Seq.{getD-take, getD-drop, paste, paste-suc, take-all}
 use Rattle.voter.specs.declared.Voter.{Voter}
 use Rattle.voter.specs.Numbers.{numbered}
-use Rattle.image.specs.Items.{itemAt, isOne, sensorsIn}
+use Rattle.image.specs.Items.{itemAt, sensorsIn}
+use Rattle.common.specs.Bits.{isOne}
 
 -- Sensor i has the items 2 i and 2 i + 1.
 two-items : (items : List ℕ) (i : ℕ) (d : Voter) → 2 * i + 1 < length items

@@ -5,6 +5,7 @@ use Rattle.common.specs.Case.{AllAsWanted}
 use Rattle.voter.specs.Numbers.{numberOf, channelsAt, numbered}
 use Rattle.sequence.specs.Numbers.{doorsAt, gearsAt}
 use Rattle.controller.proofs.Computing.{rules as stepRules}
+use Rattle.sequence.specs.Places.{movingHaveOpen}
 use Rattle.image.specs.Xdr.{fourBytes, itemFrom, bytesOf, itemsIn}
 use Rattle.image.specs.Items.{
   sensorItems,
@@ -32,7 +33,7 @@ unfolding
     fourBytes itemFrom bytesOf itemsIn
     sensorItems orderItems ordersItems restItems coreItems itemsOf
     sensorTops coreTops tops within sensorsIn coreIn stateIn
-    rules rulesHold
+    rules rulesHold movingHaveOpen
     imageOf fits loadedAt refusalOf
     fresh opening extending imageCases
 as-worked = refl

@@ -22,7 +22,8 @@ use Rattle.controller.specs.Shows.{
   invalidSensor,
 }
 use Rattle.image.specs.Xdr.{itemsIn}
-use Rattle.image.specs.Items.{oldest, lastCause, tops, itemAt}
+use Rattle.image.specs.Items.{lastCause, tops, itemAt}
+use Rattle.orders.specs.Timing.{oldest}
 use Rattle.image.specs.Images.{size, loadedAt}
 
 -- ---- Of the controller

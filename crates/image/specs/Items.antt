@@ -3,9 +3,9 @@
 use Prim.Native.Nat.{ℕ, zero, suc, _-_, _^_}
 use mathlib.Core.Bool.{Bool, true, false, _&&_}
 use mathlib.Core.List.{List, [], _∷_, _++_}
-use lib.Dec.{eqb, leb}
+use lib.Dec.{leb}
 use lib.ListN.{getD, take, drop}
-use Rattle.common.specs.Case.{bit}
+use Rattle.common.specs.Bits.{bit, isOne}
 use Rattle.voter.specs.declared.Voter.{Voter}
 use Rattle.voter.specs.Voting.{valueOf}
 use Rattle.voter.specs.Numbers.{numberOf, numbered, lastNumber as lastVoter}
@@ -13,7 +13,7 @@ use Rattle.sequence.specs.Moves.{place}
 use Rattle.sequence.specs.Numbers.{doorsNumber, gearsNumber, doorsAt, gearsAt, lastNumber as lastPlace}
 use Rattle.orders.specs.declared.Order.{Order}
 use Rattle.orders.specs.declared.Orders.{Orders}
-use Rattle.orders.specs.Timing.{order}
+use Rattle.orders.specs.Timing.{order, oldest}
 use Rattle.controller.specs.declared.Core.{Core}
 use Rattle.controller.specs.declared.State.{State}
 
@@ -55,9 +55,6 @@ unfoldable pub sensorTops : ℕ → List ℕ
 sensorTops zero = []
 sensorTops (suc sensors) = lastVoter ∷ 1 ∷ sensorTops sensors
 
-abbrev pub oldest : ℕ
-oldest = 60000
-
 abbrev pub lastCause : ℕ
 lastCause = 13
 
@@ -85,10 +82,6 @@ within (top ∷ tops) [] = false
 within (top ∷ tops) (item ∷ items) = leb item top && within tops items
 
 -- ---- The controller that items are of
-
--- On, or held 1.
-abbrev pub isOne : ℕ → Bool
-isOne item = eqb item 1
 
 -- Two items for each sensor.
 unfoldable pub sensorsIn : List ℕ → List Voter

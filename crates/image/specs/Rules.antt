@@ -2,20 +2,10 @@
 -- Assumes nothing.
 use mathlib.Core.Bool.{Bool, true, not, _&&_, _||_}
 use mathlib.Core.List.{List, [], _∷_}
-use Rattle.orders.specs.Timing.{areClosed, wantedOf}
+use Rattle.orders.specs.Timing.{wantedOf}
+use Rattle.sequence.specs.Places.{areClosed, movingHaveOpen}
 use Rattle.controller.specs.declared.State.{State}
-use Rattle.controller.specs.Shows.{
-  generalEV,
-  closeEV,
-  openEV,
-  retractEV,
-  extendEV,
-  doorsOf,
-  areOpen,
-  gearsMove,
-  red,
-  invalidSensor,
-}
+use Rattle.controller.specs.Shows.{generalEV, closeEV, openEV, retractEV, extendEV, doorsOf, red, invalidSensor}
 
 -- The second is so where the first is.
 abbrev pub implies : Bool → Bool → Bool
@@ -24,7 +14,7 @@ implies this that = not this || that
 unfoldable pub rules : State → List Bool
 rules s =
     -- moving gears have doors OPEN
-    implies (gearsMove s) (areOpen (doorsOf s)) ∷
+    movingHaveOpen (s .core .place) ∷
     -- any of the four orders that is on is wanted and has general_EV on
     implies (closeEV s) (wantedOf (s .core .place) (red s) .closes && generalEV s) ∷
     implies (openEV s) (wantedOf (s .core .place) (red s) .opens && generalEV s) ∷

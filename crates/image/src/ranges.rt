@@ -7,12 +7,10 @@ ghost use Rattle.image.specs.Items.{tops, within, itemAt};
 ghost use Rattle.image.specs.Images.{fits};
 use crate::SIZE;
 use crate::xdr;
+use orders::OLDEST;
 
 // There are so many items.
 const ITEMS: usize = 51;
-
-// Ages go to so many ms.
-const OLDEST: u32 = 60000;
 
 // Each item is at most this.
 const TOPS: [u32; 51] = [

@@ -32,7 +32,8 @@ use Rattle.controller.specs.Stages.{
   ordersStage,
   accepted,
 }
-use Rattle.controller.specs.Shows.{doorsOf, gearsOf, areMoving}
+use Rattle.controller.specs.Shows.{doorsOf, gearsOf}
+use Rattle.sequence.specs.Places.{areMoving}
 use Rattle.laws.specs.Laws.{Always, statusOf, handleOf, FollowsTheGroundModel}
 use Rattle.laws.specs.GroundModel.{HandleStatus, CloseDoor, OutgoingSequence, Move, PrintedMove, OneMoveOrNone, OfTheGroundModel}
 use Rattle.laws.specs.GroundModel.HandleStatus.{UP, DOWN}

@@ -22,12 +22,13 @@ use Rattle.sequence.specs.Moves.{place, atAim, doorsToGears, doorsHome, moveOf}
 use Rattle.orders.specs.declared.Order.{Order}
 use Rattle.orders.specs.declared.Orders.{Orders}
 use Rattle.orders.specs.declared.Wanted.{Wanted}
-use Rattle.orders.specs.Timing.{order, grownAge, grown, allGrown, switched, areClosed, wantedOf, directed, offTogether, generalOf, ordersOf}
+use Rattle.orders.specs.Timing.{order, grownAge, grown, allGrown, switched, wantedOf, directed, offTogether, generalOf, ordersOf}
+use Rattle.sequence.specs.Places.{areClosed}
 use Rattle.orders.proofs.Laws.{on-is-wanted, needed-keeps-general}
 use Rattle.controller.specs.declared.State.{State}
 use Rattle.controller.specs.Stages.{anomaly, coreOrders, ordersStage}
-use Rattle.controller.specs.Shows.{areOpen, areMoving}
-use Rattle.image.specs.Items.{oldest}
+use Rattle.sequence.specs.Places.{areOpen, areMoving}
+use Rattle.orders.specs.Timing.{oldest}
 use Rattle.image.specs.Conditions.{InvalidSensorHasCause, CausesTo13, Allowed}
 use Rattle.image.proofs.Keeping.{are-open, are-out, no-red}
 use Rattle.laws.proofs.Wanted.{close-says, open-says, retract-says, extend-says}

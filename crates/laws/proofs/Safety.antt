@@ -9,7 +9,8 @@ use Rattle.sequence.specs.declared.Gears.{Gears}
 use Rattle.sequence.specs.declared.Gears.the-variants.{Extending, Retracting}
 use Rattle.orders.specs.Timing.{isClosing, isExtending}
 use Rattle.controller.specs.declared.State.{State}
-use Rattle.controller.specs.Shows.{closeEV, openEV, retractEV, extendEV, doorsOf, gearsOf, areOpen, gearsMove, gearsRest, red}
+use Rattle.controller.specs.Shows.{closeEV, openEV, retractEV, extendEV, doorsOf, gearsOf, gearsMove, gearsRest, red}
+use Rattle.sequence.specs.Places.{areOpen}
 use Rattle.image.specs.Conditions.{
   MovingGearsHaveDoorsOpen,
   OnIsWanted,

@@ -13,10 +13,10 @@ use Rattle.sequence.specs.declared.Gears.the-variants.{Retracted, Extending, Ex
 use Rattle.sequence.specs.declared.Place.{Place}
 use Rattle.sequence.specs.Moves.{place}
 use Rattle.sequence.specs.Numbers.{doorsAt, gearsAt}
-use Rattle.sequence.specs.Table.{numberOf, entries, factsAt, askedAt, nextOf, entryAt, possible, canBeAsked, howMany}
+use Rattle.sequence.specs.Table.{numberOf, entries, factsAt, askedAt, nextOf, entryAt, canBeAsked, howMany}
+use Rattle.sequence.specs.Places.{areMoving, movingHaveOpen}
 use Rattle.sequence.proofs.Entries.{asked-at-number, table-tells}
 use Rattle.controller.specs.declared.State.{State}
-use Rattle.controller.specs.Shows.{areMoving}
 use Rattle.controller.specs.Stages.{
   anomaly,
   coreAges,
@@ -63,8 +63,8 @@ the-table-runs s stamp bytes taken =
 -- ---- Which entries can be asked
 
 -- Moving gears have doors OPEN: then a place is possible.
-possible-if : (doors : Doors) (gears : Gears) → (T (areMoving gears) → doors ≡ Open) → T (possible (place doors gears))
-unfolding possible
+possible-if : (doors : Doors) (gears : Gears) → (T (areMoving gears) → doors ≡ Open) → T (movingHaveOpen (place doors gears))
+unfolding movingHaveOpen
 possible-if doors Retracted there = tt
 possible-if doors Extending there = rw (there tt) tt
 possible-if doors Extended there = tt
@@ -78,5 +78,5 @@ asks-what-can-be-asked s reached bytes =
 
 -- 320 numbers below 512 can be asked, and a reached state asks no other.
 pub no-more-than-320-of-512 : (howMany canBeAsked entries ≡ canBeAskedInAll) × Always AsksWhatCanBeAsked
-unfolding howMany canBeAsked askedAt factsAt possible doorsAt gearsAt
+unfolding howMany canBeAsked askedAt factsAt movingHaveOpen doorsAt gearsAt
 no-more-than-320-of-512 = (refl, asks-what-can-be-asked)

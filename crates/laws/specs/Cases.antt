@@ -5,7 +5,8 @@ use mathlib.Core.Bool.{Bool, true, false}
 use mathlib.Core.List.{List, [], _∷_, _++_}
 use Prim.Native.Nat.{ℕ, _-_}
 use Rattle.common.specs.Ascii.{ascii}
-use Rattle.common.specs.Case.{Case, bit}
+use Rattle.common.specs.Bits.{bit}
+use Rattle.common.specs.Case.{Case}
 use Rattle.voter.specs.Cases.{voterCases}
 use Rattle.sequence.specs.declared.Doors.{Doors}
 use Rattle.sequence.specs.declared.Doors.the-variants.{Closed, Opening, Open, Closing}

@@ -7,12 +7,13 @@ use mathlib.Core.Path.{_≡_}
 use Prim.Native.Nat.{ℕ}
 use lib.Dec.{T, eqb}
 use Rattle.sequence.specs.declared.Doors.the-variants.{Open}
-use Rattle.orders.specs.Timing.{areClosed}
+use Rattle.sequence.specs.Places.{areClosed}
 use Rattle.controller.specs.declared.State.{State}
 use Rattle.controller.specs.Votes.{handle, sensor}
 use Rattle.controller.specs.Steps.{stepOf}
 use Rattle.controller.specs.Shows.{closeEV, openEV, retractEV, extendEV, doorsOf, gearsRest, red}
-use Rattle.image.specs.Items.{oldest, lastCause}
+use Rattle.image.specs.Items.{lastCause}
+use Rattle.orders.specs.Timing.{oldest}
 use Rattle.image.specs.Conditions.{OnHasGeneral}
 use Rattle.laws.specs.Reached.{Reached}
 use Rattle.laws.specs.GroundModel.{HandleStatus, OneMoveOrNone}

@@ -16,8 +16,6 @@ use Rattle.orders.proofs.Orders.grown.Kinds as orders-grown-kinds
 use Rattle.orders.proofs.Orders.grown.Reads as orders-grown-reads
 use Rattle.orders.proofs.Orders.after.Kinds as orders-after-kinds
 use Rattle.orders.proofs.Orders.after.Reads as orders-after-reads
-use Rattle.orders.proofs.closed.Kinds as closed-kinds
-use Rattle.orders.proofs.closed.Reads as closed-reads
 
 pub grown-age-once : OneAnswer 0 grown-age-kinds.ps grown-age-kinds.r grown-age-reads.Post
 grown-age-once κs a x y s t p q = p ∙ sym q
@@ -39,6 +37,3 @@ orders-grown-once κs a x y s t p q = p ∙ sym q
 
 pub orders-after-once : OneAnswer 0 orders-after-kinds.ps orders-after-kinds.r orders-after-reads.Post
 orders-after-once κs a x y s t p q = p ∙ sym q
-
-pub closed-once : OneAnswer 0 closed-kinds.ps closed-kinds.r closed-reads.Post
-closed-once κs a x y s t p q = p ∙ sym q

@@ -8,6 +8,7 @@ use Rattle.sequence.specs.declared.Doors.the-variants.{Closed, Opening, Open, C
 use Rattle.sequence.specs.declared.Gears.{Gears}
 use Rattle.sequence.specs.declared.Gears.the-variants.{Retracted, Extending, Extended, Retracting}
 use Rattle.sequence.specs.declared.Place.{Place}
+use Rattle.sequence.specs.Places.{areClosed}
 use Rattle.orders.specs.declared.Order.{Order}
 use Rattle.orders.specs.declared.Orders.{Orders}
 use Rattle.orders.specs.declared.Wanted.{Wanted}
@@ -17,9 +18,13 @@ order on age = record { on = on; age = age }
 
 -- ---- Ages
 
--- All grow by elapsed and stop at 60,000.
+-- Ages stop at 60,000.
+abbrev pub oldest : ℕ
+oldest = 60000
+
+-- All grow by elapsed and stop there.
 unfoldable pub grownAge : ℕ → ℕ → ℕ
-grownAge elapsed age = min (age + elapsed) 60000
+grownAge elapsed age = min (age + elapsed) oldest
 
 unfoldable pub grown : ℕ → Order → Order
 grown elapsed o = order (o .on) (grownAge elapsed (o .age))
@@ -72,13 +77,6 @@ isExtending Retracted = false
 isExtending Extending = true
 isExtending Extended = false
 isExtending Retracting = false
-
--- General_EV's doors CLOSED.
-abbrev pub areClosed : Doors → Bool
-areClosed Closed = true
-areClosed Opening = false
-areClosed Open = false
-areClosed Closing = false
 
 -- Wanted, and none with an anomaly.
 unfoldable pub wantedOf : Place → Bool → Wanted

@@ -1,24 +1,7 @@
 // The five orders with their ages: how ages grow, which orders are wanted, and when they start and stop.
 // The rule is specs/Timing.antt (document 01, "Ages" and "Orders").
 ghost use mathlib.Core.Path.{_≡_};
-ghost use Rattle.orders.specs.Timing.{
-  grownAge,
-  grown,
-  allGrown,
-  onFor,
-  offFor,
-  switched,
-  isOpening,
-  isClosing,
-  isRetracting,
-  isExtending,
-  areClosed,
-  wantedOf,
-  directed,
-  offTogether,
-  generalOf,
-  ordersOf,
-};
+ghost use Rattle.orders.specs.Timing.{grownAge, grown, allGrown, onFor, offFor, switched, isOpening, isClosing, isRetracting, isExtending, wantedOf, directed, offTogether, generalOf, ordersOf};
 use sequence::Doors;
 use sequence::Gears;
 use sequence::Place;
@@ -46,15 +29,18 @@ pub struct Wanted {
     pub extends: bool,
 }
 
-// An age some ms later. Ages stop at 60,000.
+// Ages stop at so many ms (`oldest` of specs/Timing.antt).
+pub const OLDEST: u32 = 60000;
+
+// An age some ms later.
 pub fn grown_age(age: u32, elapsed: u32) -> u32
     ensures { λ r. ⌜ r ≡ grownAge elapsed age ⌝ }
 {
     let sum = (age as u64) + (elapsed as u64);
-    if sum < 60000 {
+    if sum < (OLDEST as u64) {
         return sum as u32;
     }
-    60000
+    OLDEST
 }
 
 impl Order {
@@ -159,18 +145,6 @@ fn extending(gears: Gears) -> bool
     }
 }
 
-// Whether the doors are CLOSED.
-pub fn closed(doors: Doors) -> bool
-    ensures { λ r. ⌜ r ≡ areClosed doors ⌝ }
-{
-    match doors {
-        Doors::Closed => true,
-        Doors::Opening => false,
-        Doors::Open => false,
-        Doors::Closing => false,
-    }
-}
-
 impl Wanted {
     // Which of the four are wanted at a place; none with an anomaly.
     pub fn at(place: Place, anomaly: bool) -> Self
@@ -217,7 +191,7 @@ impl Orders {
     {
         let wanted = Wanted::at(place, anomaly);
         let doors = place.doors;
-        let needed = !closed(doors) & !anomaly;
+        let needed = !doors.are_closed() & !anomaly;
         Orders {
             general: self.general.general(needed, self.off_together()),
             closes: self.closes

@@ -3,7 +3,7 @@
 use Prim.Native.Nat.{ℕ, _+_}
 use mathlib.Core.List.{List, [], _∷_, _++_}
 use Rattle.common.specs.Ascii.{comma, joinedByCommas}
-use Rattle.common.specs.Case.{bit}
+use Rattle.common.specs.Bits.{bit}
 use Rattle.common.specs.Decimal.{decimal, digit0}
 use Rattle.controller.specs.declared.Lights.{Lights}
 use Rattle.controller.specs.declared.Shown.{Shown}

@@ -6,7 +6,7 @@ use mathlib.Core.List.{List, [], _∷_, _++_}
 use lib.Dec.{ltb}
 use lib.ListN.{length}
 use Rattle.common.specs.Ascii.{ascii}
-use Rattle.common.specs.Case.{bit}
+use Rattle.common.specs.Bits.{bit}
 use Rattle.common.specs.Decimal.{decimal, digit0}
 use Rattle.voter.specs.declared.Voter.{Voter}
 use Rattle.voter.specs.Voting.{valueOf}

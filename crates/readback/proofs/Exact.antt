@@ -12,7 +12,7 @@ use lib.Dec.{eqb, leb, ltb}
 use lib.ListN.{length, take, drop, getD, set, length-set, drop-of-length-le, replicate, length-replicate}
 use lib.Seq.{append-snoc, drop-cons, drop-set-lt, getD-set-same, getD-take, take-set-le, take-take}
 use Rattle.common.specs.Answers.{Answer, gives, refuses}
-use Rattle.common.specs.Case.{bit}
+use Rattle.common.specs.Bits.{bit}
 use Rattle.common.specs.Decimal.{digit0, decimal}
 use Rattle.dump.specs.Wires.{wires, firstCode}
 use Rattle.dump.specs.Dumps.{

@@ -8,7 +8,7 @@ use mathlib.Core.Path.{_≡_, refl, sym, ap}
 use lib.ListN.{length, getD, set, take, drop, drop-of-length-le}
 use mir.Val.{boolByte}
 use lib.Seq.{drop-cons, take-suc, take-suc-set}
-use Rattle.common.specs.Case.{bit}
+use Rattle.common.specs.Bits.{bit}
 use Rattle.readback.specs.declared.Reader.{Reader}
 use Rattle.readback.specs.Bytes.{byteOf}
 use Rattle.readback.specs.Reads.{isBad, begins, refused, bits, goesOn, givesMoment, takenFrom}

@@ -12,7 +12,7 @@ use lib.Dec.{eqb, ltb, leb, lit<}
 use lib.ListN.{length, drop, getD, set, replicate, length-append, length-replicate, drop-of-length-le}
 use lib.Seq.{drop-cons, append-snoc, set-at, getD-at}
 use Rattle.common.specs.Answers.{Answer, gives}
-use Rattle.common.specs.Case.{bit}
+use Rattle.common.specs.Bits.{bit}
 use Rattle.common.specs.Decimal.{digit0, decimal, decimalUpTo}
 use Rattle.common.proofs.Decimals.{tenth, one-digit, last-digit}
 use Rattle.dump.specs.Wires.{wireNames, wires, firstCode}

@@ -6,7 +6,7 @@ use mathlib.Core.List.{List, [], _∷_, map}
 use lib.Dec.{eqb}
 use lib.ListN.{length}
 use Rattle.common.specs.Answers.{Answer, gives, refuses}
-use Rattle.common.specs.Case.{bit}
+use Rattle.common.specs.Bits.{bit}
 use Rattle.dump.specs.Wires.{wires}
 use Rattle.dump.specs.Dumps.{Moment, hash}
 use Rattle.readback.specs.declared.Place.{Place}

@@ -20,8 +20,14 @@ use Rattle.sequence.proofs.Asked.numbered.Kinds as asked-numbered-kinds
 use Rattle.sequence.proofs.Asked.numbered.Reads as asked-numbered-reads
 use Rattle.sequence.proofs.Asked.next.Kinds as asked-next-kinds
 use Rattle.sequence.proofs.Asked.next.Reads as asked-next-reads
-use Rattle.sequence.proofs.Place.possible.Kinds as place-possible-kinds
-use Rattle.sequence.proofs.Place.possible.Reads as place-possible-reads
+use Rattle.sequence.proofs.Doors.are_closed.Kinds as doors-are-closed-kinds
+use Rattle.sequence.proofs.Doors.are_closed.Reads as doors-are-closed-reads
+use Rattle.sequence.proofs.Doors.are_open.Kinds as doors-are-open-kinds
+use Rattle.sequence.proofs.Doors.are_open.Reads as doors-are-open-reads
+use Rattle.sequence.proofs.Gears.are_moving.Kinds as gears-are-moving-kinds
+use Rattle.sequence.proofs.Gears.are_moving.Reads as gears-are-moving-reads
+use Rattle.sequence.proofs.Place.moving_have_open.Kinds as place-moving-have-open-kinds
+use Rattle.sequence.proofs.Place.moving_have_open.Reads as place-moving-have-open-reads
 
 pub at-aim-once : OneAnswer 0 at-aim-kinds.ps at-aim-kinds.r at-aim-reads.Post
 at-aim-once κs a x y s t p q = p ∙ sym q
@@ -50,5 +56,14 @@ asked-numbered-once κs a x y s t p q = p ∙ sym q
 pub asked-next-once : OneAnswer 0 asked-next-kinds.ps asked-next-kinds.r asked-next-reads.Post
 asked-next-once κs a x y s t p q = p ∙ sym q
 
-pub place-possible-once : OneAnswer 0 place-possible-kinds.ps place-possible-kinds.r place-possible-reads.Post
-place-possible-once κs a x y s t p q = p ∙ sym q
+pub doors-are-closed-once : OneAnswer 0 doors-are-closed-kinds.ps doors-are-closed-kinds.r doors-are-closed-reads.Post
+doors-are-closed-once κs a x y s t p q = p ∙ sym q
+
+pub doors-are-open-once : OneAnswer 0 doors-are-open-kinds.ps doors-are-open-kinds.r doors-are-open-reads.Post
+doors-are-open-once κs a x y s t p q = p ∙ sym q
+
+pub gears-are-moving-once : OneAnswer 0 gears-are-moving-kinds.ps gears-are-moving-kinds.r gears-are-moving-reads.Post
+gears-are-moving-once κs a x y s t p q = p ∙ sym q
+
+pub place-moving-have-open-once : OneAnswer 0 place-moving-have-open-kinds.ps place-moving-have-open-kinds.r place-moving-have-open-reads.Post
+place-moving-have-open-once κs a x y s t p q = p ∙ sym q

@@ -4,9 +4,8 @@
 use Prim.Native.Nat.{ℕ, zero, suc, _+_, _*_, _/_, _%_}
 use mathlib.Core.Bool.{Bool, true, false}
 use mathlib.Core.List.{List, []}
-use lib.Dec.{eqb}
 use lib.ListN.{getD}
-use Rattle.common.specs.Case.{bit}
+use Rattle.common.specs.Bits.{bit, isOne}
 use Rattle.common.specs.Lists.{givenFrom}
 use Rattle.sequence.specs.declared.Aim.{Aim}
 use Rattle.sequence.specs.declared.Aim.the-variants.{ToRetracted, ToExtended}
@@ -18,6 +17,7 @@ use Rattle.sequence.specs.declared.Gears.the-variants.{Retracted, Extend
 use Rattle.sequence.specs.declared.Place.{Place}
 use Rattle.sequence.specs.declared.Seen.{Seen}
 use Rattle.sequence.specs.Moves.{place, aimOf, moveOf}
+use Rattle.sequence.specs.Places.{movingHaveOpen}
 use Rattle.sequence.specs.Numbers.{doorsNumber, gearsNumber, doorsAt, gearsAt}
 
 -- ---- The number of an entry
@@ -44,10 +44,6 @@ abbrev pub entries : ℕ
 entries = 512
 
 -- ---- What is asked at a number
-
--- Handle down, or a fact that is seen.
-abbrev pub isOne : ℕ → Bool
-isOne n = eqb n 1
 
 unfoldable pub factsAt : ℕ → Seen
 factsAt n =
@@ -96,24 +92,9 @@ entryAt n = placeAt (getD (getD table (n / 8) []) (n % 8) 0)
 
 -- ---- Entries that can be asked
 
-abbrev pub isOpen : Doors → Bool
-isOpen Closed = false
-isOpen Opening = false
-isOpen Open = true
-isOpen Closing = false
-
 -- Gears move with doors OPEN only, so no reached state stands at any other place of moving gears.
-abbrev possibleWith : Gears → Doors → Bool
-possibleWith Retracted doors = true
-possibleWith Extending doors = isOpen doors
-possibleWith Extended doors = true
-possibleWith Retracting doors = isOpen doors
-
-unfoldable pub possible : Place → Bool
-possible p = possibleWith (p .gears) (p .doors)
-
 unfoldable pub canBeAsked : ℕ → Bool
-canBeAsked n = possible (askedAt n .place)
+canBeAsked n = movingHaveOpen (askedAt n .place)
 
 -- How many numbers below this one pass a test.
 unfoldable pub howMany : (ℕ → Bool) → ℕ → ℕ

@@ -4,6 +4,7 @@ ghost use mathlib.Core.Path.{_≡_};
 ghost use Rattle.sequence.specs.Moves.{atAim, moveOf};
 
 mod numbers;
+mod places;
 mod table;
 
 // Where the doors stand.

@@ -4,18 +4,7 @@ ghost use Prim.Native.Nat.{_<_, _/_, _%_};
 ghost use mathlib.Core.List.{[]};
 ghost use lib.ListN.{getD};
 ghost use Rattle.sequence.specs.Moves.{aimOf};
-ghost use Rattle.sequence.specs.Table.{
-  handleNumber,
-  factsNumber,
-  numberOf,
-  factsAt,
-  askedAt,
-  nextOf,
-  placeAt,
-  table,
-  isOpen,
-  possible,
-};
+ghost use Rattle.sequence.specs.Table.{handleNumber, factsNumber, numberOf, factsAt, askedAt, nextOf, placeAt, table};
 use crate::Aim;
 use crate::Asked;
 use crate::Doors;
@@ -221,33 +210,5 @@ impl Asked {
         ensures { λ r. ⌜ r ≡ nextOf self ⌝ }
     {
         place_at(entry(self.number()))
-    }
-}
-
-// Whether the doors are OPEN.
-fn are_open(doors: Doors) -> bool
-    ensures { λ r. ⌜ r ≡ isOpen doors ⌝ }
-{
-    match doors {
-        Doors::Closed => false,
-        Doors::Opening => false,
-        Doors::Open => true,
-        Doors::Closing => false,
-    }
-}
-
-impl Place {
-    // Whether a reached state can stand here: moving gears have doors OPEN.
-    pub fn possible(self) -> bool
-        ensures { λ r. ⌜ r ≡ possible self ⌝ }
-    {
-        let doors = self.doors;
-        let gears = self.gears;
-        match gears {
-            Gears::Retracted => true,
-            Gears::Extending => are_open(doors),
-            Gears::Extended => true,
-            Gears::Retracting => are_open(doors),
-        }
     }
 }

@@ -9,21 +9,8 @@ use Rattle.sequence.specs.declared.Aim.{Aim}
 use Rattle.sequence.specs.declared.Aim.the-variants.{ToRetracted, ToExtended}
 use Rattle.orders.specs.declared.Order.{Order}
 use Rattle.orders.specs.declared.Orders.{Orders}
-use Rattle.orders.specs.Timing.{
-  order,
-  grownAge,
-  grown,
-  allGrown,
-  switched,
-  isOpening,
-  isClosing,
-  areClosed,
-  wantedOf,
-  directed,
-  offTogether,
-  generalOf,
-  ordersOf,
-}
+use Rattle.orders.specs.Timing.{order, grownAge, grown, allGrown, switched, isOpening, isClosing, wantedOf, directed, offTogether, generalOf, ordersOf}
+use Rattle.sequence.specs.Places.{areClosed}
 use Rattle.orders.proofs.Laws.{on-is-wanted, needed-keeps-general}
 use Rattle.laws.proofs.Kept.{by-cases}
 use Rattle.settling.proofs.Phases.{Phase, doorsIn, at}

@@ -15,7 +15,7 @@ use Rattle.sequence.specs.declared.Aim.{Aim}
 use Rattle.sequence.specs.declared.Place.{Place}
 use Rattle.sequence.specs.declared.Seen.{Seen}
 use Rattle.sequence.specs.Moves.{place, atAim, doorsHome, moveOf}
-use Rattle.orders.specs.Timing.{areClosed}
+use Rattle.sequence.specs.Places.{areClosed}
 use Rattle.controller.specs.declared.Core.{Core}
 use Rattle.controller.specs.Votes.{seenOf}
 use Rattle.controller.specs.Stages.{anomaly, coreAges, coreHandle, coreMonitors, coreSequence, coreOrders, coreStep}

@@ -6,7 +6,7 @@ use Prim.Native.Nat.{ℕ, _+_, _*_}
 use lib.Dec.{T}
 use Rattle.sequence.specs.declared.Aim.{Aim}
 use Rattle.sequence.specs.Moves.{atAim}
-use Rattle.orders.specs.Timing.{areClosed}
+use Rattle.sequence.specs.Places.{areClosed}
 use Rattle.controller.specs.declared.Core.{Core}
 use Rattle.controller.specs.Stages.{anomaly}
 

@@ -12,7 +12,7 @@ use Rattle.sequence.specs.declared.Place.{Place}
 use Rattle.monitors.specs.declared.Sight.{Sight}
 use Rattle.controller.specs.declared.Core.{Core}
 use Rattle.controller.specs.Stages.{coreStep}
-use Rattle.controller.specs.Shows.{areMoving}
+use Rattle.sequence.specs.Places.{areMoving}
 
 -- What an accepted step tells the core, beside the aim.
 pub record Told : Type 0 where

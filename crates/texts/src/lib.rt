@@ -3,7 +3,7 @@
 ghost use mathlib.Core.Path.{_≡_};
 ghost use Prim.Native.Nat.{_+_, _≤_, _<_};
 ghost use lib.ListN.{length};
-ghost use Rattle.common.specs.Case.{bit};
+ghost use Rattle.common.specs.Bits.{bit};
 ghost use Rattle.common.specs.Decimal.{decimal, digit0};
 ghost use Rattle.texts.specs.Puts.{Put, putOf};
 

@@ -3,7 +3,8 @@
 use Prim.Native.Nat.{ℕ}
 use mathlib.Core.Bool.{Bool, true, false}
 use mathlib.Core.List.{List, [], _∷_}
-use Rattle.common.specs.Case.{Case, bit}
+use Rattle.common.specs.Bits.{bit}
+use Rattle.common.specs.Case.{Case}
 use Rattle.voter.specs.Voting.{voted, freshWith, valueOf}
 use Rattle.voter.specs.Numbers.{numberOf}
 use Rattle.voter.specs.declared.Voter.{Voter}

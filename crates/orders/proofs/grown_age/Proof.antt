@@ -9,6 +9,9 @@ use Rattle.orders.proofs.grown_age.Tie as tie
 add-sum : tie.Need-add-sum
 add-sum c = search needs
 
+cast-if1 : tie.Need-cast-if1
+cast-if1 c = search needs
+
 cast-result : tie.Need-cast-result
 cast-result c = search needs
 
@@ -21,4 +24,4 @@ unfolding grownAge
 returns-2 c = omega arith
 
 pub grown-age-spec : {M : Type 1} → statement M
-grown-age-spec = tie.close (tie.spec add-sum cast-result returns returns-2)
+grown-age-spec = tie.close (tie.spec add-sum cast-if1 cast-result returns returns-2)

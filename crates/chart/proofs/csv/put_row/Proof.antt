@@ -16,8 +16,8 @@ numbered-requires c κs = search needs
 next-requires : tie.Need-next-requires
 next-requires c κs = search needs
 
-possible-requires : tie.Need-possible-requires
-possible-requires c κs = search needs
+moving-have-open-requires : tie.Need-moving-have-open-requires
+moving-have-open-requires c κs = search needs
 
 last-piece-requires : tie.Need-last-piece-requires
 last-piece-requires c κs = search needs
@@ -60,7 +60,7 @@ returns c =
       omega (arith, one .0, two .0, three .0, four .place, long),
       same-piece
           (row-text n _ _ _ (asked .numbered .ensures) (next .next .ensures)
-          (rw (← can .possible .ensures) (last .last-piece .ensures)))
+          (rw (← can .moving-have-open .ensures) (last .last-piece .ensures)))
           (then (then (then (one .1) (two .1)) (three .1)) four),
     )
 
@@ -70,7 +70,7 @@ put-row-spec =
     (tie.spec
     numbered-requires
     next-requires
-    possible-requires
+    moving-have-open-requires
     last-piece-requires
     put-number-requires
     put-asked-requires

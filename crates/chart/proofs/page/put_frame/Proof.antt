@@ -4,7 +4,7 @@ use native.Mathlib.Omega.{arith}
 use mathlib.Core.Path.{sym, ap, _∙_}
 use mathlib.Core.List.{_++_, append-assoc}
 use Rattle.common.specs.Ascii.{ascii}
-use Rattle.sequence.specs.Table.{possible}
+use Rattle.sequence.specs.Places.{movingHaveOpen}
 use Rattle.texts.proofs.Placing.{then, same-piece}
 use Rattle.chart.specs.Page.{line, frameClass, cornerText, frameText}
 use Rattle.chart.specs.Differences.{placeOf}
@@ -21,8 +21,8 @@ slice-aggregate-put c = search needs
 put-requires : tie.Need-put-requires
 put-requires c κs = search needs
 
-possible-requires : tie.Need-possible-requires
-possible-requires c κs = search needs
+moving-have-open-requires : tie.Need-moving-have-open-requires
+moving-have-open-requires c κs = search needs
 
 put-frame-class-requires : tie.Need-put-frame-class-requires
 put-frame-class-requires c κs = search needs
@@ -62,13 +62,13 @@ returns c =
     let three = moved .put2 .ensures in
     let four = placed .put-corner .ensures in
     let five = ended .put3 .ensures in
-    let class = ap frameClass (asked .possible .ensures ∙ ap possible (found .place-of .ensures)) in
+    let class = ap frameClass (asked .moving-have-open .ensures ∙ ap movingHaveOpen (found .place-of .ensures)) in
     let text = then (then (then one (same-piece class (two .1))) three) (four .1) in (
       omega (arith, one .place, two .0, three .place, four .0, five .place),
       same-piece
           (sym
           (append-assoc
-          (ascii "<g class='" ++ frameClass (possible (placeOf k)) ++ ascii "' transform='translate(" ++ cornerText k)
+          (ascii "<g class='" ++ frameClass (movingHaveOpen (placeOf k)) ++ ascii "' transform='translate(" ++ cornerText k)
           (line (ascii ")'>"))
           (line (ascii "<rect width='590' height='365'/>"))))
           (then text five),
@@ -81,7 +81,7 @@ put-frame-spec =
     place-of-requires
     slice-aggregate-put
     put-requires
-    possible-requires
+    moving-have-open-requires
     put-frame-class-requires
     slice-aggregate-put-2
     put-requires-2

@@ -27,14 +27,11 @@ from-left s = left-right (getD (rules s) 0 true) (drop 1 (rules s))
 at-requires : tie.Need-at-requires
 at-requires c κs = search needs
 
-moving-requires : tie.Need-moving-requires
-moving-requires c κs = search needs
+moving-have-open-requires : tie.Need-moving-have-open-requires
+moving-have-open-requires c κs = search needs
 
-open-requires : tie.Need-open-requires
-open-requires c κs = search needs
-
-closed-requires : tie.Need-closed-requires
-closed-requires c κs = search needs
+are-closed-requires : tie.Need-are-closed-requires
+are-closed-requires c κs = search needs
 
 invalid-requires : tie.Need-invalid-requires
 invalid-requires c κs = search needs
@@ -43,12 +40,11 @@ returns : tie.Need-returns
 unfolding anomaly rules
 returns c =
     let closed = c .before in
-    let opened = closed .before .before .before .before .before .before .before .before .before in
-    let moving = opened .before in
-    rw (c .invalid .ensures, closed .closed .ensures, opened .«open» .ensures, moving .moving .ensures, moving .before .at .ensures)
+    let moving = closed .before .before .before .before .before .before .before .before .before in
+    rw (c .invalid .ensures, closed .are-closed .ensures, moving .moving-have-open .ensures, moving .before .at .ensures)
     (from-left (moving .before .before .before .before .before .before .args .state))
 
 pub hold-spec : {M : Type 1} → statement M
 hold-spec =
     tie.close
-    (tie.spec at-requires moving-requires open-requires closed-requires invalid-requires returns)
+    (tie.spec at-requires moving-have-open-requires are-closed-requires invalid-requires returns)

@@ -8,8 +8,8 @@ use Rattle.orders.proofs.Orders.after.Tie as tie
 at-requires : tie.Need-at-requires
 at-requires c κs = search needs
 
-closed-requires : tie.Need-closed-requires
-closed-requires c κs = search needs
+are-closed-requires : tie.Need-are-closed-requires
+are-closed-requires c κs = search needs
 
 off-together-requires : tie.Need-off-together-requires
 off-together-requires c κs = search needs
@@ -39,7 +39,7 @@ returns c =
       c .before .before .before .directed .ensures,
       c .before .before .before .before .general .ensures,
       c .before .before .before .before .before .off-together .ensures,
-      c .before .before .before .before .before .before .closed .ensures,
+      c .before .before .before .before .before .before .are-closed .ensures,
       c .before .before .before .before .before .before .before .at .ensures,
     )
 
@@ -48,7 +48,7 @@ after-spec =
     tie.close
     (tie.spec
     at-requires
-    closed-requires
+    are-closed-requires
     off-together-requires
     general-requires
     directed-requires

@@ -6,7 +6,7 @@ use mathlib.Core.Path.{_≡_, refl}
 use mir.Val.{boolByte}
 use Prim.Native.Nat.{_≤_}
 use lib.Dec.{lit≤}
-use Rattle.common.specs.Case.{bit}
+use Rattle.common.specs.Bits.{bit}
 use Rattle.sequence.specs.Table.{factsNumber}
 use borrow.Author.Needs.{needs}
 use Rattle.sequence.proofs.table.facts_number.Statement.{statement}
