@@ -24,9 +24,9 @@ use Rattle.controller.specs.Stages.{
   ordersStage,
   accepted,
 }
-use Rattle.controller.specs.Steps.{someOverOne, refusalOf, stepOf}
+use Rattle.controller.specs.Steps.{someOverOne, refusalAt, stepAt}
 use Rattle.controller.specs.Lamps.{greenOf, neitherAt, orangeOf, lightsOf, shownOf}
-use Rattle.controller.specs.SessionS.{agreeing, sample, answers, lineOf}
+use Rattle.controller.specs.Samples.{agreeing, rest, sees, answers, lineOf}
 
 unfoldable pub rules : Unit {0}
 unfolding
@@ -38,6 +38,6 @@ unfolding
     offLong freshOrders freshCore freshVoters freshOf
     anomaly coreAges coreHandle coreMonitors coreSequence coreOrders coreStep
     elapsedOf agesStage turned voteStage monitorsStage sequenceStage ordersStage accepted
-    someOverOne refusalOf stepOf greenOf neitherAt orangeOf lightsOf shownOf
-    agreeing sample answers lineOf some eachFrom
+    someOverOne refusalAt stepAt greenOf neitherAt orangeOf lightsOf shownOf
+    agreeing rest sees answers lineOf some eachFrom
 rules = tt

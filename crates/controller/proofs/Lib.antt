@@ -2,5 +2,3 @@ pub mod Computing
 pub mod Once
 pub mod Refusals
 pub mod LampLaws
-pub mod OnlyLamps
-pub mod Worked

@@ -5,6 +5,5 @@ pub mod Steps
 pub mod Lamps
 pub mod Shows
 pub mod BeforeFirst
-pub mod BeforeK1
 pub mod LampCases
-pub mod SessionS
+pub mod Samples

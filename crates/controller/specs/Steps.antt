@@ -19,9 +19,9 @@ limit = 100
 unfoldable pub someOverOne : List ℕ → Bool
 someOverOne bytes = some (ltb 1) bytes
 
--- For a sample: 1, 2, 3, 4; the first that applies is given. 0 where none does.
-unfoldable pub refusalOf : State → ℕ → List ℕ → ℕ
-refusalOf s stamp bytes =
+-- For a sample: 1, 2, 3, 4; the first that applies is given. 0 where none does. For any limit, and for the one in force.
+unfoldable pub refusalAt : ℕ → State → ℕ → List ℕ → ℕ
+refusalAt limit s stamp bytes =
     lowest 1
     ( -- 1: sample is not 54 bytes
     not (eqb (length bytes) 54) ∷
@@ -29,14 +29,20 @@ refusalOf s stamp bytes =
     someOverOne bytes ∷
     -- 3: elapsed is 0
     eqb (elapsedOf (s .stamp) stamp) 0 ∷
-    -- 4: elapsed is over 100
+    -- 4: elapsed is over the limit
     ltb limit (elapsedOf (s .stamp) stamp) ∷
     [])
 
--- A step: the refusal's number and the state as before, or 0 and the accepted step.
-unfoldable pub stepOf : State → ℕ → List ℕ → Answer
-stepOf s stamp bytes =
+abbrev pub refusalOf : State → ℕ → List ℕ → ℕ
+refusalOf = refusalAt limit
+
+-- A step: the refusal's number and the state as before, or 0 and the accepted step. For any limit, and for the one in force.
+unfoldable pub stepAt : ℕ → State → ℕ → List ℕ → Answer
+stepAt limit s stamp bytes =
     record {
-      refusal = refusalOf s stamp bytes;
-      state = cond (eqb (refusalOf s stamp bytes) 0) (accepted s stamp bytes) s;
+      refusal = refusalAt limit s stamp bytes;
+      state = cond (eqb (refusalAt limit s stamp bytes) 0) (accepted s stamp bytes) s;
     }
+
+abbrev pub stepOf : State → ℕ → List ℕ → Answer
+stepOf = stepAt limit

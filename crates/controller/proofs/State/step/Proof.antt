@@ -1,27 +1,27 @@
 -- `controller::State::step` meets its contract: each return by the tests that led there.
 -- Assumes nothing.
-use Rattle.controller.specs.Steps.{refusalOf, stepOf}
+use Rattle.controller.specs.Steps.{refusalAt, stepAt}
 use borrow.Author.Needs.{needs}
 use borrow.Author.Tests.{eq-eqb, ne-eqb, lt-ltb, le-ltb}
 use Rattle.controller.proofs.State.step.Statement.{statement}
 use Rattle.controller.proofs.State.step.Tie as tie
 
 returns : tie.Need-returns
-unfolding stepOf refusalOf
+unfolding stepAt refusalAt
 returns c = simp (ne-eqb _ _ (c .if1 .taken))
 
 some-over-one-requires : tie.Need-some-over-one-requires
 some-over-one-requires c κs = search needs
 
 returns-2 : tie.Need-returns-2
-unfolding stepOf refusalOf
+unfolding stepAt refusalAt
 returns-2 c = simp (eq-eqb _ _ (c .before .before .if1 .left), ← (c .before .some-over-one .ensures), c .if2 .taken)
 
 elapsed-requires : tie.Need-elapsed-requires
 elapsed-requires c κs = search needs
 
 returns-3 : tie.Need-returns-3
-unfolding stepOf refusalOf
+unfolding stepAt refusalAt
 returns-3 c =
     simp (
       eq-eqb _ _ (c .if3 .taken),
@@ -32,7 +32,7 @@ returns-3 c =
     )
 
 returns-4 : tie.Need-returns-4
-unfolding stepOf refusalOf
+unfolding stepAt refusalAt
 returns-4 c =
     simp (
       lt-ltb _ _ (c .if4 .taken),
@@ -47,7 +47,7 @@ accepted-requires : tie.Need-accepted-requires
 accepted-requires c κs = search needs
 
 returns-5 : tie.Need-returns-5
-unfolding stepOf refusalOf
+unfolding stepAt refusalAt
 returns-5 c =
     simp (
       c .accepted .ensures,
