@@ -10,31 +10,6 @@ use crate::State;
 use crate::votes;
 use voter::Voter;
 
-// Green: all three gears voted extended.
-fn green(voters: [Voter; 18]) -> bool
-    ensures { λ r. ⌜ r ≡ greenOf voters ⌝ }
-{
-    votes::all_from(voters, votes::GEAR_EXTENDED)
-}
-
-// Whether a gear (0 front, 1 left, 2 right) is voted neither extended nor retracted.
-fn neither(voters: [Voter; 18], gear: usize) -> bool
-    requires { ⌜ gear < 3 ⌝ }
-    ensures { λ r. ⌜ r ≡ neitherAt gear voters ⌝ }
-{
-    let extended = votes::value_at(voters, votes::GEAR_EXTENDED + gear);
-    let retracted = votes::value_at(voters, votes::GEAR_RETRACTED + gear);
-    !extended & !retracted
-}
-
-// Orange: some door is not voted closed, or some gear is voted neither extended nor retracted.
-fn orange(voters: [Voter; 18]) -> bool
-    ensures { λ r. ⌜ r ≡ orangeOf voters ⌝ }
-{
-    let closed = votes::all_from(voters, votes::DOOR_CLOSED);
-    !closed | neither(voters, 0) | neither(voters, 1) | neither(voters, 2)
-}
-
 impl State {
     // The three lights.
     pub fn lights(self) -> Lights
@@ -96,4 +71,29 @@ impl State {
     {
         self.core.cause
     }
+}
+
+// Green: all three gears voted extended.
+fn green(voters: [Voter; 18]) -> bool
+    ensures { λ r. ⌜ r ≡ greenOf voters ⌝ }
+{
+    votes::all_from(voters, votes::GEAR_EXTENDED)
+}
+
+// Whether a gear (0 front, 1 left, 2 right) is voted neither extended nor retracted.
+fn neither(voters: [Voter; 18], gear: usize) -> bool
+    requires { ⌜ gear < 3 ⌝ }
+    ensures { λ r. ⌜ r ≡ neitherAt gear voters ⌝ }
+{
+    let extended = votes::value_at(voters, votes::GEAR_EXTENDED + gear);
+    let retracted = votes::value_at(voters, votes::GEAR_RETRACTED + gear);
+    !extended & !retracted
+}
+
+// Orange: some door is not voted closed, or some gear is voted neither extended nor retracted.
+fn orange(voters: [Voter; 18]) -> bool
+    ensures { λ r. ⌜ r ≡ orangeOf voters ⌝ }
+{
+    let closed = votes::all_from(voters, votes::DOOR_CLOSED);
+    !closed | neither(voters, 0) | neither(voters, 1) | neither(voters, 2)
 }

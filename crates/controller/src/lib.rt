@@ -60,72 +60,6 @@ pub struct Shown {
     pub lights: Lights,
 }
 
-// Five orders off, with every age 60,000.
-fn fresh_orders() -> Orders
-    ensures { λ r. ⌜ r ≡ freshOrders ⌝ }
-{
-    let off = Order {
-        on: false,
-        age: OLDEST,
-    };
-    Orders {
-        general: off,
-        closes: off,
-        opens: off,
-        retracts: off,
-        extends: off,
-    }
-}
-
-// All channels valid; handle held down, gear_extended and door_closed held 1, the others held 0.
-fn fresh_voters() -> [Voter; 18]
-    ensures { λ r. ⌜ r ≡ freshVoters ⌝ }
-{
-    let down = Voter::fresh(true);
-    let one = Voter::fresh(true);
-    let zero = Voter::fresh(false);
-    [
-        // handle, analogical_switch
-        down,
-        zero,
-        // gear_extended
-        one,
-        one,
-        one,
-        // gear_retracted
-        zero,
-        zero,
-        zero,
-        // gear_shock_absorber
-        zero,
-        zero,
-        zero,
-        // door_closed
-        one,
-        one,
-        one,
-        // door_open
-        zero,
-        zero,
-        zero,
-        // circuit_pressurized
-        zero,
-    ]
-}
-
-// Whether a byte is over 1.
-fn some_over_one(sample: &[u8]) -> bool
-    ensures { λ r. ⌜ r ≡ someOverOne (now (sample .entry)) ⌝ }
-{
-    let mut seen = false;
-    let mut i = 0;
-    while i < sample.len() {
-        seen = seen | (1 < sample[i]);
-        i += 1;
-    }
-    seen
-}
-
 impl State {
     // A fresh start at a stamp.
     pub fn fresh(stamp: u32) -> Self
@@ -195,4 +129,70 @@ impl State {
             state: self.accepted(stamp, sample),
         }
     }
+}
+
+// Five orders off, with every age 60,000.
+fn fresh_orders() -> Orders
+    ensures { λ r. ⌜ r ≡ freshOrders ⌝ }
+{
+    let off = Order {
+        on: false,
+        age: OLDEST,
+    };
+    Orders {
+        general: off,
+        closes: off,
+        opens: off,
+        retracts: off,
+        extends: off,
+    }
+}
+
+// All channels valid; handle held down, gear_extended and door_closed held 1, the others held 0.
+fn fresh_voters() -> [Voter; 18]
+    ensures { λ r. ⌜ r ≡ freshVoters ⌝ }
+{
+    let down = Voter::fresh(true);
+    let one = Voter::fresh(true);
+    let zero = Voter::fresh(false);
+    [
+        // handle, analogical_switch
+        down,
+        zero,
+        // gear_extended
+        one,
+        one,
+        one,
+        // gear_retracted
+        zero,
+        zero,
+        zero,
+        // gear_shock_absorber
+        zero,
+        zero,
+        zero,
+        // door_closed
+        one,
+        one,
+        one,
+        // door_open
+        zero,
+        zero,
+        zero,
+        // circuit_pressurized
+        zero,
+    ]
+}
+
+// Whether a byte is over 1.
+fn some_over_one(sample: &[u8]) -> bool
+    ensures { λ r. ⌜ r ≡ someOverOne (now (sample .entry)) ⌝ }
+{
+    let mut seen = false;
+    let mut i = 0;
+    while i < sample.len() {
+        seen = seen | (1 < sample[i]);
+        i += 1;
+    }
+    seen
 }

@@ -97,7 +97,7 @@ impl Core {
         Core {
             orders,
             since: self.since,
-            place: self.place.moved(aim, seen),
+            place: table::moved(self.place, aim, seen),
             cause: self.cause,
         }
     }
@@ -117,6 +117,18 @@ impl Core {
 }
 
 impl State {
+    // One accepted step: the stages in their order.
+    pub(crate) fn accepted(self, stamp: u32, sample: &[u8]) -> Self
+        requires { ⌜ length (now sample) ≡ 54 ⌝ }
+        ensures { λ r. ⌜ r ≡ accepted self stamp (now (sample .entry)) ⌝ }
+    {
+        let aged = self.ages(stamp);
+        let voted = aged.vote(sample);
+        let watched = voted.monitors();
+        let moved = watched.sequence();
+        moved.orders()
+    }
+
     // Ages grow by what has elapsed, and the stamp is the last accepted one.
     fn ages(self, stamp: u32) -> Self
         ensures { λ r. ⌜ r ≡ agesStage stamp self ⌝ }
@@ -136,7 +148,8 @@ impl State {
     {
         let before = self.voters;
         let voters = votes::all_voted(before, sample);
-        let turned = votes::value_at(before, 0) != votes::value_at(voters, 0);
+        let turned = votes::value_at(before, votes::HANDLE)
+            != votes::value_at(voters, votes::HANDLE);
         State {
             stamp: self.stamp,
             voters,
@@ -179,17 +192,5 @@ impl State {
             voters,
             core: self.core.orders(),
         }
-    }
-
-    // One accepted step: the stages in their order.
-    pub(crate) fn accepted(self, stamp: u32, sample: &[u8]) -> Self
-        requires { ⌜ length (now sample) ≡ 54 ⌝ }
-        ensures { λ r. ⌜ r ≡ accepted self stamp (now (sample .entry)) ⌝ }
-    {
-        let aged = self.ages(stamp);
-        let voted = aged.vote(sample);
-        let watched = voted.monitors();
-        let moved = watched.sequence();
-        moved.orders()
     }
 }

@@ -10,7 +10,7 @@ use sequence::Seen;
 use voter::Voter;
 
 // The sensors' numbers, counted from 0 in the sample's order; of three, the front one's.
-const HANDLE: usize = 0;
+pub(crate) const HANDLE: usize = 0;
 
 const ANALOGICAL_SWITCH: usize = 1;
 

@@ -25,6 +25,18 @@ pub struct Sight {
     pub invalid: bool,
 }
 
+// The lowest cause that holds, over the orders before the step with their ages grown, the handle's age and the votes.
+pub fn cause(orders: Orders, since: u32, see: Sight) -> u8
+    ensures { λ r. ⌜ r ≡ causeOf orders since see ⌝ }
+{
+    of_doors(
+        orders,
+        since,
+        see,
+        of_gears(orders, since, see, of_the_rest(orders, since, see)),
+    )
+}
+
 // The number where its test holds, else the rest.
 fn number(holds: bool, n: u8, rest: u8) -> u8
     ensures { λ r. ⌜ r ≡ cond holds n rest ⌝ }
@@ -63,16 +75,4 @@ fn of_the_rest(orders: Orders, since: u32, see: Sight) -> u8
     let eleven = number((1000 <= since) & (since <= 19999) & !see.switch, 11, twelve);
     let ten = number(orders.general.off_for(10000) & see.pressurized, 10, eleven);
     number(orders.general.on_for(2000) & !see.pressurized, 9, ten)
-}
-
-// The lowest cause that holds, over the orders before the step with their ages grown, the handle's age and the votes.
-pub fn cause(orders: Orders, since: u32, see: Sight) -> u8
-    ensures { λ r. ⌜ r ≡ causeOf orders since see ⌝ }
-{
-    of_doors(
-        orders,
-        since,
-        see,
-        of_gears(orders, since, see, of_the_rest(orders, since, see)),
-    )
 }

@@ -97,54 +97,6 @@ impl Order {
     }
 }
 
-// Doors OPENING.
-fn opening(doors: Doors) -> bool
-    ensures { λ r. ⌜ r ≡ isOpening doors ⌝ }
-{
-    match doors {
-        Doors::Closed => false,
-        Doors::Opening => true,
-        Doors::Open => false,
-        Doors::Closing => false,
-    }
-}
-
-// Doors CLOSING.
-fn closing(doors: Doors) -> bool
-    ensures { λ r. ⌜ r ≡ isClosing doors ⌝ }
-{
-    match doors {
-        Doors::Closed => false,
-        Doors::Opening => false,
-        Doors::Open => false,
-        Doors::Closing => true,
-    }
-}
-
-// Gears RETRACTING.
-fn retracting(gears: Gears) -> bool
-    ensures { λ r. ⌜ r ≡ isRetracting gears ⌝ }
-{
-    match gears {
-        Gears::Retracted => false,
-        Gears::Extending => false,
-        Gears::Extended => false,
-        Gears::Retracting => true,
-    }
-}
-
-// Gears EXTENDING.
-fn extending(gears: Gears) -> bool
-    ensures { λ r. ⌜ r ≡ isExtending gears ⌝ }
-{
-    match gears {
-        Gears::Retracted => false,
-        Gears::Extending => true,
-        Gears::Extended => false,
-        Gears::Retracting => false,
-    }
-}
-
 impl Wanted {
     // Which of the four are wanted at a place; none with an anomaly.
     pub fn at(place: Place, anomaly: bool) -> Self
@@ -202,5 +154,53 @@ impl Orders {
             extends: self.extends
                 .directed(wanted.extends, self.general, self.retracts),
         }
+    }
+}
+
+// Doors OPENING.
+fn opening(doors: Doors) -> bool
+    ensures { λ r. ⌜ r ≡ isOpening doors ⌝ }
+{
+    match doors {
+        Doors::Closed => false,
+        Doors::Opening => true,
+        Doors::Open => false,
+        Doors::Closing => false,
+    }
+}
+
+// Doors CLOSING.
+fn closing(doors: Doors) -> bool
+    ensures { λ r. ⌜ r ≡ isClosing doors ⌝ }
+{
+    match doors {
+        Doors::Closed => false,
+        Doors::Opening => false,
+        Doors::Open => false,
+        Doors::Closing => true,
+    }
+}
+
+// Gears RETRACTING.
+fn retracting(gears: Gears) -> bool
+    ensures { λ r. ⌜ r ≡ isRetracting gears ⌝ }
+{
+    match gears {
+        Gears::Retracted => false,
+        Gears::Extending => false,
+        Gears::Extended => false,
+        Gears::Retracting => true,
+    }
+}
+
+// Gears EXTENDING.
+fn extending(gears: Gears) -> bool
+    ensures { λ r. ⌜ r ≡ isExtending gears ⌝ }
+{
+    match gears {
+        Gears::Retracted => false,
+        Gears::Extending => true,
+        Gears::Extended => false,
+        Gears::Retracting => false,
     }
 }

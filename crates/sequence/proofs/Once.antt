@@ -4,8 +4,6 @@ use mathlib.Core.Path.{_∙_, sym}
 use Rattle.common.specs.OneAnswer.{OneAnswer}
 use Rattle.sequence.proofs.at_aim.Kinds as at-aim-kinds
 use Rattle.sequence.proofs.at_aim.Reads as at-aim-reads
-use Rattle.sequence.proofs.Place.moved.Kinds as place-moved-kinds
-use Rattle.sequence.proofs.Place.moved.Reads as place-moved-reads
 use Rattle.sequence.proofs.Doors.number.Kinds as doors-number-kinds
 use Rattle.sequence.proofs.Doors.number.Reads as doors-number-reads
 use Rattle.sequence.proofs.Doors.numbered.Kinds as doors-numbered-kinds
@@ -14,12 +12,6 @@ use Rattle.sequence.proofs.Gears.number.Kinds as gears-number-kinds
 use Rattle.sequence.proofs.Gears.number.Reads as gears-number-reads
 use Rattle.sequence.proofs.Gears.numbered.Kinds as gears-numbered-kinds
 use Rattle.sequence.proofs.Gears.numbered.Reads as gears-numbered-reads
-use Rattle.sequence.proofs.Asked.number.Kinds as asked-number-kinds
-use Rattle.sequence.proofs.Asked.number.Reads as asked-number-reads
-use Rattle.sequence.proofs.Asked.numbered.Kinds as asked-numbered-kinds
-use Rattle.sequence.proofs.Asked.numbered.Reads as asked-numbered-reads
-use Rattle.sequence.proofs.Asked.next.Kinds as asked-next-kinds
-use Rattle.sequence.proofs.Asked.next.Reads as asked-next-reads
 use Rattle.sequence.proofs.Doors.are_closed.Kinds as doors-are-closed-kinds
 use Rattle.sequence.proofs.Doors.are_closed.Reads as doors-are-closed-reads
 use Rattle.sequence.proofs.Doors.are_open.Kinds as doors-are-open-kinds
@@ -32,9 +24,6 @@ use Rattle.sequence.proofs.Place.moving_have_open.Reads as place-moving
 pub at-aim-once : OneAnswer 0 at-aim-kinds.ps at-aim-kinds.r at-aim-reads.Post
 at-aim-once κs a x y s t p q = p ∙ sym q
 
-pub place-moved-once : OneAnswer 0 place-moved-kinds.ps place-moved-kinds.r place-moved-reads.Post
-place-moved-once κs a x y s t p q = p ∙ sym q
-
 pub doors-number-once : OneAnswer 0 doors-number-kinds.ps doors-number-kinds.r doors-number-reads.Post
 doors-number-once κs a x y s t p q = p ∙ sym q
 
@@ -46,15 +35,6 @@ gears-number-once κs a x y s t p q = p ∙ sym q
 
 pub gears-numbered-once : OneAnswer 0 gears-numbered-kinds.ps gears-numbered-kinds.r gears-numbered-reads.Post
 gears-numbered-once κs a x y s t p q = p ∙ sym q
-
-pub asked-number-once : OneAnswer 0 asked-number-kinds.ps asked-number-kinds.r asked-number-reads.Post
-asked-number-once κs a x y s t p q = p ∙ sym q
-
-pub asked-numbered-once : OneAnswer 0 asked-numbered-kinds.ps asked-numbered-kinds.r asked-numbered-reads.Post
-asked-numbered-once κs a x y s t p q = p ∙ sym q
-
-pub asked-next-once : OneAnswer 0 asked-next-kinds.ps asked-next-kinds.r asked-next-reads.Post
-asked-next-once κs a x y s t p q = p ∙ sym q
 
 pub doors-are-closed-once : OneAnswer 0 doors-are-closed-kinds.ps doors-are-closed-kinds.r doors-are-closed-reads.Post
 doors-are-closed-once κs a x y s t p q = p ∙ sym q

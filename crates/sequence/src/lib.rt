@@ -1,11 +1,10 @@
-// Doors and gears, what the handle aims at, and one move of the sequence.
-// The rule is specs/Moves.antt (document 01, "Sequence").
+// Doors and gears, what the handle aims at and what is seen: what the rule of the sequence speaks of.
+// The rule is specs/Moves.antt (document 01, "Sequence"); it runs as a table, which is the crate `table`.
 ghost use mathlib.Core.Path.{_≡_};
-ghost use Rattle.sequence.specs.Moves.{atAim, moveOf};
+ghost use Rattle.sequence.specs.Moves.{atAim};
 
 mod numbers;
 mod places;
-mod table;
 
 // Where the doors stand.
 pub enum Doors {
@@ -43,13 +42,6 @@ pub struct Seen {
     pub retracted: bool,
 }
 
-// What the table is asked: handle, doors, gears, and what is seen.
-pub struct Asked {
-    pub aim: Aim,
-    pub place: Place,
-    pub seen: Seen,
-}
-
 // Whether the gears stand where the handle aims.
 pub fn at_aim(aim: Aim, gears: Gears) -> bool
     ensures { λ r. ⌜ r ≡ atAim aim gears ⌝ }
@@ -67,19 +59,5 @@ pub fn at_aim(aim: Aim, gears: Gears) -> bool
             Gears::Extended => true,
             Gears::Retracting => false,
         },
-    }
-}
-
-impl Place {
-    // At most one move of doors and gears: what the table tells.
-    pub fn moved(self, aim: Aim, seen: Seen) -> Self
-        ensures { λ r. ⌜ r ≡ moveOf aim self seen ⌝ }
-    {
-        let asked = Asked {
-            aim,
-            place: self,
-            seen,
-        };
-        asked.next()
     }
 }

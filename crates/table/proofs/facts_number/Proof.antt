@@ -1,4 +1,4 @@
--- `sequence::table::facts_number` meets its contract: each fact by its weight.
+-- `table::facts_number` meets its contract: each fact by its weight.
 -- Assumes nothing.
 use native.Mathlib.Omega.{arith}
 use mathlib.Core.Bool.{Bool, true, false}
@@ -7,10 +7,10 @@ use mir.Val.{boolByte}
 use Prim.Native.Nat.{_≤_}
 use lib.Dec.{lit≤}
 use Rattle.common.specs.Bits.{bit}
-use Rattle.sequence.specs.Table.{factsNumber}
+use Rattle.table.specs.Table.{factsNumber}
 use borrow.Author.Needs.{needs}
-use Rattle.sequence.proofs.table.facts_number.Statement.{statement}
-use Rattle.sequence.proofs.table.facts_number.Tie as tie
+use Rattle.table.proofs.facts_number.Statement.{statement}
+use Rattle.table.proofs.facts_number.Tie as tie
 
 -- A fact as the machine holds it.
 to-1 : (b : Bool) → boolByte b ≤ 1

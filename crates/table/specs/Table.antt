@@ -7,18 +7,18 @@ use mathlib.Core.List.{List, []}
 use lib.ListN.{getD}
 use Rattle.common.specs.Bits.{bit, isOne}
 use Rattle.common.specs.Lists.{givenFrom}
 use Rattle.sequence.specs.declared.Aim.{Aim}
 use Rattle.sequence.specs.declared.Aim.the-variants.{ToRetracted, ToExtended}
-use Rattle.sequence.specs.declared.Asked.{Asked}
+use Rattle.table.specs.declared.Asked.{Asked}
 use Rattle.sequence.specs.declared.Doors.{Doors}
 use Rattle.sequence.specs.declared.Doors.the-variants.{Closed, Opening, Open, Closing}
 use Rattle.sequence.specs.declared.Gears.{Gears}
 use Rattle.sequence.specs.declared.Gears.the-variants.{Retracted, Extending, Extended, Retracting}
 use Rattle.sequence.specs.declared.Place.{Place}
 use Rattle.sequence.specs.declared.Seen.{Seen}
 use Rattle.sequence.specs.Moves.{place, aimOf, moveOf}
 use Rattle.sequence.specs.Places.{movingHaveOpen}
 use Rattle.sequence.specs.Numbers.{doorsNumber, gearsNumber, doorsAt, gearsAt}
 
 -- ---- The number of an entry
 
@@ -45,6 +45,7 @@ entries = 512
 
 -- ---- What is asked at a number
 
+-- What is seen.
 unfoldable pub factsAt : ℕ → Seen
 factsAt n =
     record {
@@ -54,6 +55,7 @@ factsAt n =
       retracted = isOne (n % 2);
     }
 
+-- Handle, doors, gears, and what is seen.
 unfoldable pub askedAt : ℕ → Asked
 askedAt n =
     record {
@@ -72,6 +74,7 @@ nextOf a = moveOf (a .aim) (a .place) (a .seen)
 unfoldable pub placeNumber : Place → ℕ
 placeNumber p = 4 * doorsNumber (p .doors) + gearsNumber (p .gears)
 
+-- The doors and gears that an entry holds.
 unfoldable pub placeAt : ℕ → Place
 placeAt n = place (doorsAt (n / 4)) (gearsAt (n % 4))
 

@@ -1,9 +1,9 @@
--- `sequence::Place::moved` meets its contract: what the table tells is the rule.
+-- `table::moved` meets its contract: what the table tells is the rule.
 -- Assumes nothing.
-use Rattle.sequence.specs.Table.{nextOf}
+use Rattle.table.specs.Table.{nextOf}
 use borrow.Author.Needs.{needs}
-use Rattle.sequence.proofs.Place.moved.Statement.{statement}
-use Rattle.sequence.proofs.Place.moved.Tie as tie
+use Rattle.table.proofs.moved.Statement.{statement}
+use Rattle.table.proofs.moved.Tie as tie
 
 next-requires : tie.Need-next-requires
 next-requires c κs = search needs

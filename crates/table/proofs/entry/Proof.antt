@@ -1,13 +1,13 @@
--- `sequence::table::entry` meets its contract: the constant is the table of the rule, by one test that computes all 512 entries.
+-- `table::entry` meets its contract: the constant is the table of the rule, by one test that computes all 512 entries.
 -- Assumes nothing.
 use mathlib.Core.Path.{refl}
 use Rattle.common.specs.Lists.{givenFrom}
 use Rattle.sequence.specs.Moves.{atAim, nextGears, doorsToGears, doorsHome, moveOf}
 use Rattle.sequence.specs.Numbers.{doorsAt, gearsAt}
-use Rattle.sequence.specs.Table.{factsAt, askedAt, nextOf, placeNumber, ruledAt, rowAt, table}
+use Rattle.table.specs.Table.{factsAt, askedAt, nextOf, placeNumber, ruledAt, rowAt, table}
 use borrow.Author.Needs.{needs}
-use Rattle.sequence.proofs.table.entry.Statement.{statement}
-use Rattle.sequence.proofs.table.entry.Tie as tie
+use Rattle.table.proofs.entry.Statement.{statement}
+use Rattle.table.proofs.entry.Tie as tie
 
 mul-result : tie.Need-mul-result
 mul-result c = search needs

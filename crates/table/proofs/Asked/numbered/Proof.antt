@@ -1,9 +1,9 @@
--- `sequence::Asked::numbered` meets its contract: each part of the number by itself.
+-- `table::Asked::numbered` meets its contract: each part of the number by itself.
 -- Assumes nothing.
-use Rattle.sequence.specs.Table.{askedAt}
+use Rattle.table.specs.Table.{askedAt}
 use borrow.Author.Needs.{needs}
-use Rattle.sequence.proofs.Asked.numbered.Statement.{statement}
-use Rattle.sequence.proofs.Asked.numbered.Tie as tie
+use Rattle.table.proofs.Asked.numbered.Statement.{statement}
+use Rattle.table.proofs.Asked.numbered.Tie as tie
 
 cast-numbered : tie.Need-cast-numbered
 cast-numbered c = search needs

@@ -9,16 +9,16 @@ use lib.Dec.{lit≤}
 use lib.ListN.{getD}
 use Rattle.common.specs.Bits.{bit}
 use Rattle.common.proofs.Given.{given-at, given-at-0}
 use Rattle.sequence.specs.declared.Aim.{Aim}
 use Rattle.sequence.specs.declared.Aim.the-variants.{ToRetracted, ToExtended}
-use Rattle.sequence.specs.declared.Asked.{Asked}
+use Rattle.table.specs.declared.Asked.{Asked}
 use Rattle.sequence.specs.declared.Place.{Place}
 use Rattle.sequence.specs.declared.Seen.{Seen}
 use Rattle.sequence.specs.Moves.{aimOf}
 use Rattle.sequence.specs.Numbers.{doorsNumber, gearsNumber}
-use Rattle.sequence.specs.Table.{handleNumber, factsNumber, numberOf, entries, factsAt, askedAt, nextOf, placeNumber, placeAt, ruledAt, rowAt, table, entryAt}
+use Rattle.table.specs.Table.{handleNumber, factsNumber, numberOf, entries, factsAt, askedAt, nextOf, placeNumber, placeAt, ruledAt, rowAt, table, entryAt}
 use Rattle.common.specs.Bits.{isOne}
 use Rattle.sequence.proofs.Numbering.{
   doors-to-3,
   gears-to-3,
   doors-at-number,

@@ -1,16 +1,70 @@
-// The sequence as a table (specs/Table.antt; request K4).
+// The sequence as a table (request K4): what comes next at each place of handle, doors, gears and the four facts.
+// The rule is specs/Table.antt, which says what each entry is by the rule of `sequence`; the constant is proved to be that table.
 ghost use mathlib.Core.Path.{_≡_};
 ghost use Prim.Native.Nat.{_<_, _/_, _%_};
 ghost use mathlib.Core.List.{[]};
 ghost use lib.ListN.{getD};
-ghost use Rattle.sequence.specs.Moves.{aimOf};
-ghost use Rattle.sequence.specs.Table.{handleNumber, factsNumber, numberOf, factsAt, askedAt, nextOf, placeAt, table};
-use crate::Aim;
-use crate::Asked;
-use crate::Doors;
-use crate::Gears;
-use crate::Place;
-use crate::Seen;
+ghost use Rattle.sequence.specs.Moves.{aimOf, moveOf};
+ghost use Rattle.table.specs.Table.{handleNumber, factsNumber, numberOf, factsAt, askedAt, nextOf, placeAt, table};
+use sequence::Aim;
+use sequence::Doors;
+use sequence::Gears;
+use sequence::Place;
+use sequence::Seen;
+
+// What the table is asked: handle, doors, gears, and what is seen.
+pub struct Asked {
+    pub aim: Aim,
+    pub place: Place,
+    pub seen: Seen,
+}
+
+// At most one move of doors and gears: what the table tells.
+pub fn moved(place: Place, aim: Aim, seen: Seen) -> Place
+    ensures { λ r. ⌜ r ≡ moveOf aim place seen ⌝ }
+{
+    let asked = Asked { aim, place, seen };
+    asked.next()
+}
+
+impl Asked {
+    // The number of the entry, 0 to 511.
+    pub fn number(self) -> usize
+        ensures { λ r. ⌜ r ≡ numberOf self ⌝ }
+    {
+        let place = self.place;
+        let doors = place.doors;
+        let gears = place.gears;
+        let aim = self.aim;
+        let facts = facts_number(self.seen);
+        256 * handle_number(aim)
+            + 64 * (doors.number() as usize)
+            + 16 * (gears.number() as usize)
+            + facts
+    }
+
+    // What is asked at a number.
+    pub fn numbered(n: usize) -> Self
+        ensures { λ r. ⌜ r ≡ askedAt n ⌝ }
+    {
+        let place = Place {
+            doors: Doors::numbered((n / 64 % 4) as u32),
+            gears: Gears::numbered((n / 16 % 4) as u32),
+        };
+        Asked {
+            aim: aim_of(n / 256 % 2 == 1),
+            place,
+            seen: facts_at(n),
+        }
+    }
+
+    // The next doors and gears: what the table tells.
+    pub fn next(self) -> Place
+        ensures { λ r. ⌜ r ≡ nextOf self ⌝ }
+    {
+        place_at(entry(self.number()))
+    }
+}
 
 // The next doors and gears: 4 times the doors' number and the gears'. Two rows for each place of handle, doors and gears, the
 // second with all open; in a row an entry for each set of the other facts: all closed (4), all extended (2), all retracted (1).
@@ -172,43 +226,4 @@ fn entry(n: usize) -> u8
     ensures { λ r. ⌜ r ≡ getD (getD table (n / 8) []) (n % 8) 0 ⌝ }
 {
     NEXT[n / 8][n % 8]
-}
-
-impl Asked {
-    // The number of the entry, 0 to 511.
-    pub fn number(self) -> usize
-        ensures { λ r. ⌜ r ≡ numberOf self ⌝ }
-    {
-        let place = self.place;
-        let doors = place.doors;
-        let gears = place.gears;
-        let aim = self.aim;
-        let facts = facts_number(self.seen);
-        256 * handle_number(aim)
-            + 64 * (doors.number() as usize)
-            + 16 * (gears.number() as usize)
-            + facts
-    }
-
-    // What is asked at a number.
-    pub fn numbered(n: usize) -> Self
-        ensures { λ r. ⌜ r ≡ askedAt n ⌝ }
-    {
-        let place = Place {
-            doors: Doors::numbered((n / 64 % 4) as u32),
-            gears: Gears::numbered((n / 16 % 4) as u32),
-        };
-        Asked {
-            aim: aim_of(n / 256 % 2 == 1),
-            place,
-            seen: facts_at(n),
-        }
-    }
-
-    // The next doors and gears: what the table tells.
-    pub fn next(self) -> Place
-        ensures { λ r. ⌜ r ≡ nextOf self ⌝ }
-    {
-        place_at(entry(self.number()))
-    }
 }

@@ -1,12 +1,12 @@
--- `sequence::Asked::next` meets its contract: the table is the rule, at each entry.
+-- `table::Asked::next` meets its contract: the table is the rule, at each entry.
 -- Assumes nothing.
 use native.Mathlib.Omega.{arith}
 use mathlib.Core.Path.{ap, _∙_}
-use Rattle.sequence.specs.Table.{placeAt, entryAt}
-use Rattle.sequence.proofs.Entries.{number-below, table-tells}
+use Rattle.table.specs.Table.{placeAt, entryAt}
+use Rattle.table.proofs.Entries.{number-below, table-tells}
 use borrow.Author.Needs.{needs}
-use Rattle.sequence.proofs.Asked.next.Statement.{statement}
-use Rattle.sequence.proofs.Asked.next.Tie as tie
+use Rattle.table.proofs.Asked.next.Statement.{statement}
+use Rattle.table.proofs.Asked.next.Tie as tie
 
 number-requires : tie.Need-number-requires
 number-requires c κs = search needs

@@ -1,9 +1,9 @@
--- `sequence::table::place_at` meets its contract: the doors by the quotient, the gears by the rest.
+-- `table::place_at` meets its contract: the doors by the quotient, the gears by the rest.
 -- Assumes nothing.
-use Rattle.sequence.specs.Table.{placeAt}
+use Rattle.table.specs.Table.{placeAt}
 use borrow.Author.Needs.{needs}
-use Rattle.sequence.proofs.table.place_at.Statement.{statement}
-use Rattle.sequence.proofs.table.place_at.Tie as tie
+use Rattle.table.proofs.place_at.Statement.{statement}
+use Rattle.table.proofs.place_at.Tie as tie
 
 cast-numbered : tie.Need-cast-numbered
 cast-numbered c = search needs

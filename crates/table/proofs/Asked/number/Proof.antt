@@ -1,12 +1,12 @@
--- `sequence::Asked::number` meets its contract: handle, doors, gears and the facts, each by its weight.
+-- `table::Asked::number` meets its contract: handle, doors, gears and the facts, each by its weight.
 -- Assumes nothing.
 use native.Mathlib.Omega.{arith}
-use Rattle.sequence.specs.Table.{numberOf}
-use Rattle.sequence.proofs.Entries.{handle-to-1, facts-to-15}
+use Rattle.table.specs.Table.{numberOf}
+use Rattle.table.proofs.Entries.{handle-to-1, facts-to-15}
 use Rattle.sequence.proofs.Numbering.{doors-to-3, gears-to-3}
 use borrow.Author.Needs.{needs}
-use Rattle.sequence.proofs.Asked.number.Statement.{statement}
-use Rattle.sequence.proofs.Asked.number.Tie as tie
+use Rattle.table.proofs.Asked.number.Statement.{statement}
+use Rattle.table.proofs.Asked.number.Tie as tie
 
 facts-number-requires : tie.Need-facts-number-requires
 facts-number-requires c κs = search needs

@@ -1,0 +1,24 @@
+-- No second answer meets the contract of a public function of this crate.
+-- Assumes nothing.
+use mathlib.Core.Path.{_∙_, sym}
+use Rattle.common.specs.OneAnswer.{OneAnswer}
+use Rattle.table.proofs.moved.Kinds as moved-kinds
+use Rattle.table.proofs.moved.Reads as moved-reads
+use Rattle.table.proofs.Asked.number.Kinds as asked-number-kinds
+use Rattle.table.proofs.Asked.number.Reads as asked-number-reads
+use Rattle.table.proofs.Asked.numbered.Kinds as asked-numbered-kinds
+use Rattle.table.proofs.Asked.numbered.Reads as asked-numbered-reads
+use Rattle.table.proofs.Asked.next.Kinds as asked-next-kinds
+use Rattle.table.proofs.Asked.next.Reads as asked-next-reads
+
+pub moved-once : OneAnswer 0 moved-kinds.ps moved-kinds.r moved-reads.Post
+moved-once κs a x y s t p q = p ∙ sym q
+
+pub asked-number-once : OneAnswer 0 asked-number-kinds.ps asked-number-kinds.r asked-number-reads.Post
+asked-number-once κs a x y s t p q = p ∙ sym q
+
+pub asked-numbered-once : OneAnswer 0 asked-numbered-kinds.ps asked-numbered-kinds.r asked-numbered-reads.Post
+asked-numbered-once κs a x y s t p q = p ∙ sym q
+
+pub asked-next-once : OneAnswer 0 asked-next-kinds.ps asked-next-kinds.r asked-next-reads.Post
+asked-next-once κs a x y s t p q = p ∙ sym q
