@@ -4,6 +4,8 @@ use mathlib.Core.Path.{_∙_, sym}
 use Rattle.common.specs.OneAnswer.{OneAnswer}
 use Rattle.sequence.proofs.at_aim.Kinds as at-aim-kinds
 use Rattle.sequence.proofs.at_aim.Reads as at-aim-reads
+use Rattle.sequence.proofs.Aim.number.Kinds as aim-number-kinds
+use Rattle.sequence.proofs.Aim.number.Reads as aim-number-reads
 use Rattle.sequence.proofs.Doors.number.Kinds as doors-number-kinds
 use Rattle.sequence.proofs.Doors.number.Reads as doors-number-reads
 use Rattle.sequence.proofs.Doors.numbered.Kinds as doors-numbered-kinds
@@ -23,6 +25,9 @@ use Rattle.sequence.proofs.Place.moving_have_open.Reads as place-moving
 
 pub at-aim-once : OneAnswer 0 at-aim-kinds.ps at-aim-kinds.r at-aim-reads.Post
 at-aim-once κs a x y s t p q = p ∙ sym q
+
+pub aim-number-once : OneAnswer 0 aim-number-kinds.ps aim-number-kinds.r aim-number-reads.Post
+aim-number-once κs a x y s t p q = p ∙ sym q
 
 pub doors-number-once : OneAnswer 0 doors-number-kinds.ps doors-number-kinds.r doors-number-reads.Post
 doors-number-once κs a x y s t p q = p ∙ sym q

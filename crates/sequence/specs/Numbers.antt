@@ -1,12 +1,19 @@
--- Request K3: doors and gears as numbers (0 to 3: CLOSED, OPENING, OPEN, CLOSING; RETRACTED, EXTENDING, EXTENDED, RETRACTING).
+-- Request K4: the handle as a number. Request K3: doors and gears as numbers (0 to 3: CLOSED, OPENING, OPEN, CLOSING; RETRACTED, EXTENDING, EXTENDED, RETRACTING).
 -- Assumes nothing.
 use Prim.Native.Nat.{ℕ}
 use mathlib.Core.Bool.{cond}
 use lib.Dec.{eqb}
+use Rattle.sequence.specs.declared.Aim.{Aim}
+use Rattle.sequence.specs.declared.Aim.the-variants.{ToRetracted, ToExtended}
 use Rattle.sequence.specs.declared.Doors.{Doors}
 use Rattle.sequence.specs.declared.Doors.the-variants.{Closed, Opening, Open, Closing}
 use Rattle.sequence.specs.declared.Gears.{Gears}
 use Rattle.sequence.specs.declared.Gears.the-variants.{Retracted, Extending, Extended, Retracting}
+
+-- Handle up is 0, down is 1.
+abbrev pub handleNumber : Aim → ℕ
+handleNumber ToRetracted = 0
+handleNumber ToExtended = 1
 
 abbrev pub doorsNumber : Doors → ℕ
 doorsNumber Closed = 0

@@ -1,8 +1,21 @@
-// Doors and gears as numbers (specs/Numbers.antt; request K3).
+// Handle, doors and gears as numbers (specs/Numbers.antt; requests K3 and K4).
 ghost use mathlib.Core.Path.{_≡_};
-ghost use Rattle.sequence.specs.Numbers.{doorsNumber, gearsNumber, doorsAt, gearsAt};
+ghost use Rattle.sequence.specs.Numbers.{handleNumber, doorsNumber, gearsNumber, doorsAt, gearsAt};
+use crate::Aim;
 use crate::Doors;
 use crate::Gears;
+
+impl Aim {
+    // Handle up is 0, down is 1.
+    pub fn number(self) -> u32
+        ensures { λ r. ⌜ r ≡ handleNumber self ⌝ }
+    {
+        match self {
+            Aim::ToRetracted => 0,
+            Aim::ToExtended => 1,
+        }
+    }
+}
 
 impl Doors {
     // 0 to 3: CLOSED, OPENING, OPEN, CLOSING.

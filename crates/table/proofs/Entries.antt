@@ -16,7 +16,8 @@ use Rattle.sequence.specs.declared.Place.{Place}
 use Rattle.sequence.specs.declared.Seen.{Seen}
 use Rattle.sequence.specs.Moves.{aimOf}
 use Rattle.sequence.specs.Numbers.{doorsNumber, gearsNumber}
-use Rattle.table.specs.Table.{handleNumber, factsNumber, numberOf, entries, factsAt, askedAt, nextOf, placeNumber, placeAt, ruledAt, rowAt, table, entryAt}
+use Rattle.table.specs.Table.{factsNumber, numberOf, entries, factsAt, askedAt, nextOf, placeNumber, placeAt, ruledAt, rowAt, table, entryAt}
+use Rattle.sequence.specs.Numbers.{handleNumber}
 use Rattle.common.specs.Bits.{isOne}
 use Rattle.sequence.proofs.Numbering.{
   doors-to-3,

@@ -2,30 +2,19 @@
 -- closed, all extended, all retracted, and it tells the next doors and gears.
 -- Assumes nothing.
 use Prim.Native.Nat.{ℕ, zero, suc, _+_, _*_, _/_, _%_}
-use mathlib.Core.Bool.{Bool, true, false}
+use mathlib.Core.Bool.{Bool}
 use mathlib.Core.List.{List, []}
 use lib.ListN.{getD}
 use Rattle.common.specs.Bits.{bit, isOne}
 use Rattle.common.specs.Lists.{givenFrom}
-use Rattle.sequence.specs.declared.Aim.{Aim}
-use Rattle.sequence.specs.declared.Aim.the-variants.{ToRetracted, ToExtended}
 use Rattle.table.specs.declared.Asked.{Asked}
-use Rattle.sequence.specs.declared.Doors.{Doors}
-use Rattle.sequence.specs.declared.Doors.the-variants.{Closed, Opening, Open, Closing}
-use Rattle.sequence.specs.declared.Gears.{Gears}
-use Rattle.sequence.specs.declared.Gears.the-variants.{Retracted, Extending, Extended, Retracting}
 use Rattle.sequence.specs.declared.Place.{Place}
 use Rattle.sequence.specs.declared.Seen.{Seen}
 use Rattle.sequence.specs.Moves.{place, aimOf, moveOf}
 use Rattle.sequence.specs.Places.{movingHaveOpen}
-use Rattle.sequence.specs.Numbers.{doorsNumber, gearsNumber, doorsAt, gearsAt}
+use Rattle.sequence.specs.Numbers.{handleNumber, doorsNumber, gearsNumber, doorsAt, gearsAt}
 
 -- ---- The number of an entry
-
--- Handle up is 0, down is 1.
-abbrev pub handleNumber : Aim → ℕ
-handleNumber ToRetracted = 0
-handleNumber ToExtended = 1
 
 -- The facts all open, all closed, all extended, all retracted, the first most significant.
 unfoldable pub factsNumber : Seen → ℕ

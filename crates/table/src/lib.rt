@@ -5,7 +5,8 @@ ghost use Prim.Native.Nat.{_<_, _/_, _%_};
 ghost use mathlib.Core.List.{[]};
 ghost use lib.ListN.{getD};
 ghost use Rattle.sequence.specs.Moves.{aimOf, moveOf};
-ghost use Rattle.table.specs.Table.{handleNumber, factsNumber, numberOf, factsAt, askedAt, nextOf, placeAt, table};
+ghost use Rattle.table.specs.Table.{factsNumber, numberOf, factsAt, askedAt, nextOf, placeAt, table};
+ghost use Rattle.sequence.specs.Numbers.{handleNumber};
 use sequence::Aim;
 use sequence::Doors;
 use sequence::Gears;
@@ -171,10 +172,7 @@ const NEXT: [[u8; 8]; 64] = [
 fn handle_number(aim: Aim) -> usize
     ensures { λ r. ⌜ r ≡ handleNumber aim ⌝ }
 {
-    match aim {
-        Aim::ToRetracted => 0,
-        Aim::ToExtended => 1,
-    }
+    aim.number() as usize
 }
 
 // The facts as a number: all open, all closed, all extended, all retracted, the first most significant.
