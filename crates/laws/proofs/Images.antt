@@ -5,21 +5,21 @@ use Prim.Native.Nat.{ℕ, _<_, _^_}
 use native.Mathlib.Omega.{arith}
 use mathlib.Core.Bool.{Bool, true, false, cond}
 use mathlib.Core.List.{List, [], _∷_}
-use mathlib.Core.Path.{_≡_, refl, ap, subst}
+use mathlib.Core.Path.{_≡_, refl, ap}
 use lib.Dec.{eqb}
 use Rattle.controller.specs.declared.State.{State}
 use Rattle.controller.specs.declared.Answer.{Answer}
 use Rattle.controller.specs.Start.{startedAt}
-use Rattle.controller.specs.Stages.{elapsedOf, agesStage, voteStage, monitorsStage, sequenceStage, ordersStage, accepted}
-use Rattle.controller.specs.Steps.{refusalOf, stepOf}
-use Rattle.controller.specs.SessionS.{Row, answers}
+use Rattle.controller.specs.Stages.{elapsedOf, accepted}
+use Rattle.controller.specs.Steps.{refusalAt, refusalOf, stepAt, stepOf}
+use Rattle.controller.specs.Samples.{Row, answers}
 use Rattle.image.specs.Images.{imageOf, loadOf}
 use Rattle.image.specs.Conditions.{Taken}
-use Rattle.image.proofs.RoundTrips.{image-is-of, allowed-is-taken, saved-then-loaded}
+use Rattle.image.proofs.RoundTrips.{allowed-is-taken, saved-then-loaded}
 use Rattle.laws.specs.Reached.{Reached}
-use Rattle.laws.specs.Reached.Reached.{loaded}
 use Rattle.laws.specs.Laws.{Always}
 use Rattle.laws.specs.HandedOver.{butForStamp, AnswerTheSame, SameTimes, ahead, allAhead, Of32Bits}
+use Rattle.laws.proofs.Stages.{stages}
 use Rattle.laws.proofs.Lifted.{step-keeps, reached-is-allowed}
 
 -- ---- Saving and loading
@@ -36,11 +36,6 @@ pub reached-comes-back :
     loadOf before (imageOf s) stamp ≡ record { refusal = 0; state = startedAt stamp s }
 reached-comes-back s reached = saved-then-loaded s (reached-is-allowed s reached)
 
--- The controller that comes back is reached too.
-pub started-is-reached : (s : State) → Reached s → (stamp : ℕ) → Reached (startedAt stamp s)
-started-is-reached s reached stamp =
-    subst Reached (image-is-of s (reached-is-allowed s reached) stamp) (loaded (imageOf s) (reached-saves s reached) stamp)
-
 -- ---- One step, on two controllers that are the same but for the stamp: both look at the stamp through what has elapsed alone
 
 module _
@@ -48,18 +43,18 @@ module _
     (same : startedAt 0 s ≡ startedAt 0 other)
     (times : elapsedOf (s .stamp) a ≡ elapsedOf (other .stamp) b) where
   same-refusal : refusalOf s a bytes ≡ refusalOf other b bytes
-  unfolding refusalOf
+  unfolding refusalAt
   same-refusal = rw times
 
   same-accepted : startedAt 0 (accepted s a bytes) ≡ startedAt 0 (accepted other b bytes)
-  unfolding startedAt accepted agesStage voteStage monitorsStage sequenceStage ordersStage
+  unfolding startedAt stages
   same-accepted =
       let voters : s .voters ≡ other .voters = ap (λ (t : State). t .voters) same in
       let core : s .core ≡ other .core = ap (λ (t : State). t .core) same in
       rw (times, voters, core)
 
   same-step : butForStamp (stepOf s a bytes) ≡ butForStamp (stepOf other b bytes)
-  unfolding stepOf
+  unfolding stepAt
   same-step = rw same-refusal (either (eqb (refusalOf other b bytes) 0))
     where
       answer : State → Answer
@@ -126,11 +121,11 @@ onAhead ms s = startedAt (ahead ms (s .stamp)) s
 
 module _ (ms : ℕ) (s : State) (stamp : ℕ) (bytes : List ℕ) (is32 : s .stamp < 2 ^ 32) where
   accepted-ahead : accepted (onAhead ms s) (ahead ms stamp) bytes ≡ onAhead ms (accepted s stamp bytes)
-  unfolding startedAt accepted agesStage voteStage monitorsStage sequenceStage ordersStage
+  unfolding startedAt stages
   accepted-ahead = rw (← elapsed-ahead ms (s .stamp) stamp is32)
 
   step-ahead : stepOf (onAhead ms s) (ahead ms stamp) bytes .state ≡ onAhead ms (stepOf s stamp bytes .state)
-  unfolding stepOf startedAt
+  unfolding stepAt startedAt
   step-ahead =
       rw (← same-refusal s (onAhead ms s) stamp (ahead ms stamp) bytes refl (elapsed-ahead ms (s .stamp) stamp is32))
       (either (eqb (refusalOf s stamp bytes) 0))
@@ -143,7 +138,7 @@ module _ (ms : ℕ) (s : State) (stamp : ℕ) (bytes : List ℕ) (is32 : s .stam
       either false = refl
 
   step-is32 : stamp < 2 ^ 32 → stepOf s stamp bytes .state .stamp < 2 ^ 32
-  unfolding accepted agesStage voteStage monitorsStage sequenceStage ordersStage
+  unfolding stages
   step-is32 h = step-keeps (λ (t : State). t .stamp < 2 ^ 32) s stamp bytes h is32
 
 same-times-ahead :

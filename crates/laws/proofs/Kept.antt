@@ -5,7 +5,7 @@ use Prim.Native.Nat.{ℕ, _≤_, zero-le}
 use native.Mathlib.Omega.{arith}
 use mathlib.Core.Bool.{Bool, true, false, cond, not, _&&_}
 use mathlib.Core.List.{List}
-use mathlib.Core.Path.{_≡_, refl, subst}
+use mathlib.Core.Path.{_≡_}
 use lib.Dec.{T, eqb}
 use lib.ListN.{length}
 use mir.Facts.{yes-and}
@@ -13,24 +13,19 @@ use Rattle.voter.specs.declared.Voter.{Voter}
 use Rattle.sequence.specs.declared.Doors.{Doors}
 use Rattle.sequence.specs.declared.Doors.the-variants.{Closed, Opening, Open, Closing}
 use Rattle.sequence.specs.declared.Gears.{Gears}
-use Rattle.sequence.specs.declared.Gears.the-variants.{Retracted, Extending, Extended, Retracting}
-use Rattle.sequence.specs.declared.Aim.{Aim}
-use Rattle.sequence.specs.declared.Aim.the-variants.{ToRetracted, ToExtended}
+use Rattle.sequence.specs.declared.Gears.the-variants.{Extending, Retracting}
 use Rattle.sequence.specs.declared.Place.{Place}
-use Rattle.sequence.specs.declared.Seen.{Seen}
-use Rattle.sequence.specs.Moves.{place, atAim, doorsToGears, doorsHome, moveOf}
+use Rattle.sequence.specs.Places.{areClosed, areOpen, areMoving, movingHaveOpen}
 use Rattle.orders.specs.declared.Order.{Order}
 use Rattle.orders.specs.declared.Orders.{Orders}
 use Rattle.orders.specs.declared.Wanted.{Wanted}
-use Rattle.orders.specs.Timing.{order, grownAge, grown, allGrown, switched, wantedOf, directed, offTogether, generalOf, ordersOf}
-use Rattle.sequence.specs.Places.{areClosed}
+use Rattle.orders.specs.Timing.{oldest, order, grownAge, grown, allGrown, switched, wantedOf, directed, offTogether, generalOf, ordersOf}
 use Rattle.orders.proofs.Laws.{on-is-wanted, needed-keeps-general}
 use Rattle.controller.specs.declared.State.{State}
 use Rattle.controller.specs.Stages.{anomaly, coreOrders, ordersStage}
-use Rattle.sequence.specs.Places.{areOpen, areMoving}
-use Rattle.orders.specs.Timing.{oldest}
 use Rattle.image.specs.Conditions.{InvalidSensorHasCause, CausesTo13, Allowed}
 use Rattle.image.proofs.Keeping.{are-open, are-out, no-red}
+use Rattle.laws.proofs.Tests.{then}
 use Rattle.laws.proofs.Wanted.{close-says, open-says, retract-says, extend-says}
 
 -- ---- Ages stop at 60,000.
@@ -79,8 +74,15 @@ sound-order elapsed wanted needed stops general opposite o implies =
 -- ---- What is wanted needs general_EV: doors are not CLOSED, and there is no anomaly.
 
 -- Moving gears have doors OPEN.
-abbrev pub MovingHasOpen : Place → Type 0
-MovingHasOpen p = T (areMoving (p .gears)) → T (areOpen (p .doors))
+pub open-under : (p : Place) → T (movingHaveOpen p) → T (areMoving (p .gears)) → T (areOpen (p .doors))
+unfolding movingHaveOpen
+open-under p = then (areMoving (p .gears)) (areOpen (p .doors))
+
+open-is-out : (doors : Doors) → T (areOpen doors) → T (not (areClosed doors))
+open-is-out Closed h = h
+open-is-out Opening h = tt
+open-is-out Open h = tt
+open-is-out Closing h = tt
 
 abbrev needed : Place → Bool → Bool
 needed p red = not (areClosed (p .doors)) && not red
@@ -88,8 +90,9 @@ needed p red = not (areClosed (p .doors)) && not red
 needed-at : (p : Place) (red : Bool) (doors : Doors) → p .doors ≡ doors → T (not (areClosed doors)) → T (not red) → T (needed p red)
 needed-at p red doors e out calm = rw e (yes-and (not (areClosed doors)) (not red) out calm)
 
-moving-needs : (p : Place) (red : Bool) (gears : Gears) → MovingHasOpen p → p .gears ≡ gears → T (areMoving gears) → T (not red) → T (needed p red)
-moving-needs p red gears m e moving calm = needed-at p red Open (are-open (p .doors) (m (rw e moving))) tt calm
+moving-needs : (p : Place) (red : Bool) (gears : Gears) → T (movingHaveOpen p) → p .gears ≡ gears → T (areMoving gears) → T (not red) → T (needed p red)
+moving-needs p red gears m e moving calm =
+    yes-and (not (areClosed (p .doors))) (not red) (open-is-out (p .doors) (open-under p m (rw e moving))) calm
 
 module _ (p : Place) (red : Bool) where
   close-needs : T (wantedOf p red .closes) → T (needed p red)
@@ -98,54 +101,11 @@ module _ (p : Place) (red : Bool) where
   open-needs : T (wantedOf p red .opens) → T (needed p red)
   open-needs w = let says = open-says p red w in needed-at p red Opening (says .0) tt (says .1)
 
-  retract-needs : MovingHasOpen p → T (wantedOf p red .retracts) → T (needed p red)
+  retract-needs : T (movingHaveOpen p) → T (wantedOf p red .retracts) → T (needed p red)
   retract-needs m w = let says = retract-says p red w in moving-needs p red Retracting m (says .0) tt (says .1)
 
-  extend-needs : MovingHasOpen p → T (wantedOf p red .extends) → T (needed p red)
+  extend-needs : T (movingHaveOpen p) → T (wantedOf p red .extends) → T (needed p red)
   extend-needs m w = let says = extend-says p red w in moving-needs p red Extending m (says .0) tt (says .1)
-
--- ---- The sequence keeps the doors OPEN under moving gears.
-
-resting-at-aim : (aim : Aim) (gears : Gears) → T (atAim aim gears) → T (areMoving gears) → ⊥
-unfolding atAim
-resting-at-aim ToRetracted Retracted h m = m
-resting-at-aim ToRetracted Extending h m = h
-resting-at-aim ToRetracted Extended h m = h
-resting-at-aim ToRetracted Retracting h m = h
-resting-at-aim ToExtended Retracted h m = h
-resting-at-aim ToExtended Extending h m = h
-resting-at-aim ToExtended Extended h m = m
-resting-at-aim ToExtended Retracting h m = h
-
-home-keeps-gears : (doors : Doors) (gears : Gears) (seen : Seen) → doorsHome (place doors gears) seen .gears ≡ gears
-unfolding doorsHome
-home-keeps-gears Closed gears seen = refl
-home-keeps-gears Opening gears seen = refl
-home-keeps-gears Open gears seen = refl
-home-keeps-gears Closing gears seen = refl
-
-out-has-open : (doors : Doors) (aim : Aim) (gears : Gears) (seen : Seen) → MovingHasOpen (place doors gears) → MovingHasOpen (doorsToGears aim (place doors gears) seen)
-unfolding doorsToGears
-out-has-open Closed aim gears seen m h = m h
-out-has-open Opening aim gears seen m h = absurd (m h)
-out-has-open Open aim gears seen m h = tt
-out-has-open Closing aim gears seen m h = absurd (m h)
-
--- By cases on a test, with the fact in hand.
-pub by-cases : (test : Bool) (P : Bool → Type 0) → (T test → P true) → (T (not test) → P false) → P test
-by-cases true P holds fails = holds tt
-by-cases false P holds fails = fails tt
-
-move-has-open : (aim : Aim) (p : Place) (seen : Seen) → MovingHasOpen p → MovingHasOpen (moveOf aim p seen)
-unfolding moveOf
-move-has-open aim p seen m =
-    by-cases (atAim aim (p .gears)) (λ (there : Bool). MovingHasOpen (cond there (doorsHome p seen) (doorsToGears aim p seen)))
-    (λ there h. absurd (resting-at-aim aim (p .gears) there (subst (λ (gears : Gears). T (areMoving gears)) (home-keeps-gears (p .doors) (p .gears) seen) h)))
-    (λ away. out-has-open (p .doors) aim (p .gears) seen m)
-
-pub sequence-has-open : (red : Bool) (aim : Aim) (p : Place) (seen : Seen) → MovingHasOpen p → MovingHasOpen (cond red p (moveOf aim p seen))
-sequence-has-open true aim p seen m = m
-sequence-has-open false aim p seen m = move-has-open aim p seen m
 
 -- ---- The orders' stage
 
@@ -157,7 +117,7 @@ module _ (elapsed stamp since cause : ℕ) (voters : List Voter) (p : Place) (os
 
   pub orders-allow :
       length voters ≡ 18 →
-      MovingHasOpen p →
+      T (movingHaveOpen p) →
       since ≤ oldest →
       CausesTo13 grownTo →
       InvalidSensorHasCause grownTo →
@@ -180,7 +140,7 @@ module _ (elapsed stamp since cause : ℕ) (voters : List Voter) (p : Place) (os
         causes = caused;
         rules =
             record {
-              movingHaveOpen = λ h. are-open (p .doors) (m h);
+              movingHaveOpen = λ h. are-open (p .doors) (open-under p m h);
               onIsWanted = (closes .isWanted, opens .isWanted, retracts .isWanted, extends .isWanted);
               onHasGeneral = (closes .hasGeneral, opens .hasGeneral, retracts .hasGeneral, extends .hasGeneral);
               openHaveGeneral =

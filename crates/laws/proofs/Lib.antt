@@ -1,4 +1,7 @@
+pub mod Tests
+pub mod Stages
 pub mod Wanted
+pub mod Model
 pub mod Kept
 pub mod Watched
 pub mod Lifted

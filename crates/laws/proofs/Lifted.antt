@@ -12,31 +12,21 @@ use Rattle.common.proofs.Loops.{upTo-length, upTo-all}
 use Rattle.voter.specs.declared.Voter.{Voter}
 use Rattle.controller.specs.declared.Core.{Core}
 use Rattle.controller.specs.declared.State.{State}
-use Rattle.controller.specs.Votes.{votesAt, allVoted, sightOf, seenOf, aimed}
-use Rattle.controller.specs.Start.{offLong, freshOrders, freshCore, freshVoters, freshOf}
-use Rattle.controller.specs.Stages.{
-  anomaly,
-  coreAges,
-  coreHandle,
-  coreMonitors,
-  coreSequence,
-  coreOrders,
-  coreStep,
-  elapsedOf,
-  agesStage,
-  turned,
-  voteStage,
-  monitorsStage,
-  sequenceStage,
-  ordersStage,
-  accepted,
-}
-use Rattle.controller.specs.Steps.{refusalOf, stepOf}
-use Rattle.image.specs.Conditions.{Allowed}
+use Rattle.controller.specs.Votes.{handle, sensor, votesAt, allVoted, sightOf, seenOf, aimed}
+use Rattle.sequence.specs.Places.{areOpen, areMoving, movingHaveOpen}
+use Rattle.controller.specs.Start.{offLong, freshOrders, freshCore, freshVoters, freshOf, startedAt}
+use Rattle.controller.specs.Stages.{anomaly, coreStep, elapsedOf, agesStage, turned, voteStage, monitorsStage, sequenceStage, accepted}
+use Rattle.controller.specs.Steps.{refusalOf, stepAt, stepOf}
+use Rattle.controller.specs.Shows.{doorsOf, gearsOf}
+use Rattle.image.specs.Conditions.{KeepsRules, Allowed}
+use Rattle.image.proofs.Keeping.{started-keeps}
 use Rattle.image.proofs.RoundTrips.{taken-is-allowed}
-use Rattle.laws.specs.Reached.Reached.{fresh, loaded, step}
+use Rattle.laws.specs.Reached.Reached.{fresh, loaded, started, step}
 use Rattle.laws.specs.Laws.{Always}
-use Rattle.laws.proofs.Kept.{since-aged, sequence-has-open, orders-allow}
+use Rattle.laws.proofs.Tests.{so}
+use Rattle.laws.proofs.Stages.{stages, coreStages}
+use Rattle.laws.proofs.Model.{unless-red, keeps-open}
+use Rattle.laws.proofs.Kept.{since-aged, orders-allow}
 use Rattle.laws.proofs.Watched.{accepted-to-13, accepted-has-cause, fresh-all-valid}
 
 -- The step of the core that an accepted sample makes.
@@ -46,12 +36,12 @@ coreOn s stamp bytes =
     coreStep (elapsedOf (s .stamp) stamp) (turned (s .voters) votes) (aimed votes) (sightOf votes) (s .core)
 
 pub core-of-accepted : (s : State) (stamp : ℕ) (bytes : List ℕ) → accepted s stamp bytes .core ≡ coreOn s stamp bytes
-unfolding coreStep agesStage voteStage monitorsStage sequenceStage ordersStage accepted
+unfolding stages coreStages
 core-of-accepted s stamp bytes = refl
 
 -- A step keeps what every accepted step keeps.
 pub step-keeps : (P : State → Type 0) (s : State) (stamp : ℕ) (bytes : List ℕ) → P (accepted s stamp bytes) → P s → P (stepOf s stamp bytes .state)
-unfolding stepOf
+unfolding stepAt
 step-keeps P s stamp bytes taken before = either (eqb (refusalOf s stamp bytes) 0)
   where
     either : (isTaken : Bool) → P (cond isTaken (accepted s stamp bytes) s)
@@ -67,8 +57,13 @@ votes-length bytes voters =
     sym (ap length (upTo-all (votesAt bytes) 0 (length voters) voters (le-refl (length voters)))) ∙
     upTo-length (votesAt bytes) 0 (length voters) voters
 
+-- Moving gears have doors OPEN.
+pub rules-have-open : (s : State) → KeepsRules s → T (movingHaveOpen (s .core .place))
+unfolding movingHaveOpen
+rules-have-open s rules = so (areMoving (gearsOf s)) (areOpen (doorsOf s)) (λ m. rw (rules .movingHaveOpen m) tt)
+
 accepted-allowed : (s : State) (stamp : ℕ) (bytes : List ℕ) → Allowed s → Allowed (accepted s stamp bytes)
-unfolding accepted agesStage voteStage monitorsStage sequenceStage ordersStage coreAges coreHandle coreMonitors coreSequence coreOrders
+unfolding aimed stages coreStages
 accepted-allowed s stamp bytes allowed =
     let votes : List Voter = allVoted bytes (s .voters) in
     let elapsed : ℕ = elapsedOf (s .stamp) stamp in
@@ -76,8 +71,8 @@ accepted-allowed s stamp bytes allowed =
     let moved : Core = sequenceStage watched .core in
     orders-allow elapsed stamp (moved .since) (moved .cause) votes (moved .place) (s .core .orders)
     (votes-length bytes (s .voters) ∙ allowed .sensors)
-    (sequence-has-open (anomaly (watched .core)) (aimed votes) (s .core .place) (seenOf (sightOf votes))
-    (λ m. rw (allowed .rules .movingHaveOpen m) tt))
+    (keeps-open (unless-red (anomaly (watched .core)) (sensor handle votes) (s .core .place) (seenOf (sightOf votes)))
+    (rules-have-open s (allowed .rules)))
     (since-aged (turned (s .voters) votes) elapsed (s .core .since))
     (accepted-to-13 s stamp bytes (allowed .causes))
     (accepted-has-cause s stamp bytes)
@@ -99,10 +94,22 @@ fresh-allowed stamp =
           };
     }
 
+-- A new start stamp is nothing that is asked of a state.
+started-allowed : (s : State) (stamp : ℕ) → Allowed s → Allowed (startedAt stamp s)
+unfolding startedAt
+started-allowed s stamp allowed =
+    record {
+      sensors = allowed .sensors;
+      ages = allowed .ages;
+      causes = allowed .causes;
+      rules = started-keeps stamp s (allowed .rules);
+    }
+
 -- Every state that is reached, from a fresh start or a taken image, is one that an image may be of.
 pub reached-is-allowed : Always Allowed
 reached-is-allowed s (fresh stamp) = fresh-allowed stamp
 reached-is-allowed s (loaded image taken stamp) = taken-is-allowed image taken stamp
+reached-is-allowed s (started {s = before} reached stamp) = started-allowed before stamp (reached-is-allowed before reached)
 reached-is-allowed s (step {s = before} reached stamp bytes) =
     let allowed : Allowed before = reached-is-allowed before reached in
     step-keeps Allowed before stamp bytes (accepted-allowed before stamp bytes allowed) allowed

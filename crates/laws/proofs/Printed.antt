@@ -11,7 +11,8 @@ use Rattle.sequence.specs.declared.Aim.the-variants.{ToRetracted, ToExtended}
 use Rattle.sequence.specs.declared.Seen.{Seen}
 use Rattle.sequence.specs.Moves.{place, doorsToGears, moveOf}
 use Rattle.controller.specs.Shows.{red}
-use Rattle.laws.specs.Reached.{after}
+use Rattle.controller.specs.Samples.{after}
+use Rattle.laws.specs.Bounds.{boundFor}
 use Rattle.laws.specs.AsPrinted.{
   printedMoveOf,
   printedSequence,
@@ -38,7 +39,7 @@ differs-only-in-closing ToExtended Closing gears seen h = absurd (h refl)
 
 -- 249 samples, of 24,800 ms.
 pub as-printed-it-neither-settles-nor-lights-red : HangsPastTheBound closingRetracted handleDown
-unfolding runs printedMoveOf printedSequence printedStage printedAccepted printedStep printedStates closingRetracted handleDown spanOf hangs throughout
+unfolding runs boundFor printedMoveOf printedSequence printedStage printedAccepted printedStep printedStates closingRetracted handleDown spanOf hangs throughout
 as-printed-it-neither-settles-nor-lights-red = (tt, lit< tt)
 
 -- Document 01 opens the doors again, and lights red when the same samples show that they stay closed.

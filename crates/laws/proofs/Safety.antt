@@ -12,7 +12,6 @@ use Rattle.controller.specs.declared.State.{State}
 use Rattle.controller.specs.Shows.{closeEV, openEV, retractEV, extendEV, doorsOf, gearsOf, gearsMove, gearsRest, red}
 use Rattle.sequence.specs.Places.{areOpen}
 use Rattle.image.specs.Conditions.{
-  MovingGearsHaveDoorsOpen,
   OnIsWanted,
   OpenDoorsHaveGeneral,
   InvalidSensorHasCause,
@@ -23,13 +22,15 @@ use Rattle.image.specs.Conditions.{
 use Rattle.laws.specs.Reached.{Reached}
 use Rattle.laws.specs.Laws.{
   Always,
+  MovingGearsHaveDoorsOpen,
   OppositesNeverTogether,
   NoneWithoutGeneral,
   GearOrdersOnlyWithDoorsOpen,
   DoorOrdersOnlyWithGearsAtRest,
 }
 use Rattle.laws.proofs.Wanted.{close-says, open-says, retract-says, extend-says}
-use Rattle.laws.proofs.Lifted.{reached-is-allowed}
+use Rattle.laws.proofs.Kept.{open-under}
+use Rattle.laws.proofs.Lifted.{rules-have-open, reached-is-allowed}
 
 keeps-rules : Always KeepsRules
 keeps-rules s reached = reached-is-allowed s reached .rules
@@ -37,7 +38,7 @@ keeps-rules s reached = reached-is-allowed s reached .rules
 -- ---- Request K3
 
 pub moving-gears-have-doors-open : Always MovingGearsHaveDoorsOpen
-moving-gears-have-doors-open s reached = keeps-rules s reached .movingHaveOpen
+moving-gears-have-doors-open s reached = rules-have-open s (keeps-rules s reached)
 
 pub an-order-that-is-on-is-wanted : Always OnIsWanted
 an-order-that-is-on-is-wanted s reached = keeps-rules s reached .onIsWanted
@@ -69,11 +70,13 @@ module _ (s : State) (reached : Reached s) where
   while-extending : T (extendEV s) → gearsOf s ≡ Extending
   while-extending h = extend-says (s .core .place) (red s) (an-order-that-is-on-is-wanted s reached .3 h) .0
 
-  -- Doors that stand elsewhere than OPEN have gears at rest.
+  -- Moving gears have doors OPEN ..
+  open-while-moving : T (gearsMove s) → T (areOpen (doorsOf s))
+  open-while-moving = open-under (s .core .place) (moving-gears-have-doors-open s reached)
+
+  -- .. so doors that stand elsewhere have gears at rest.
   at-rest : (doors : Doors) → doorsOf s ≡ doors → (T (areOpen doors) → ⊥) → T (gearsRest s)
-  at-rest doors e away =
-      not-T (gearsMove s)
-      (λ m. away (subst (λ (d : Doors). T (areOpen d)) e (rw (moving-gears-have-doors-open s reached m) tt)))
+  at-rest doors e away = not-T (gearsMove s) (λ m. away (subst (λ (d : Doors). T (areOpen d)) e (open-while-moving m)))
 
 -- ---- Document 01
 
@@ -88,8 +91,8 @@ none-of-the-four-without-general s reached = keeps-rules s reached .onHasGeneral
 
 pub gear-orders-only-with-doors-open : Always GearOrdersOnlyWithDoorsOpen
 gear-orders-only-with-doors-open s reached = (
-  λ r. moving-gears-have-doors-open s reached (rw (while-retracting s reached r) tt),
-  λ e. moving-gears-have-doors-open s reached (rw (while-extending s reached e) tt),
+  λ r. open-while-moving s reached (rw (while-retracting s reached r) tt),
+  λ e. open-while-moving s reached (rw (while-extending s reached e) tt),
 )
 
 pub door-orders-only-with-gears-at-rest : Always DoorOrdersOnlyWithGearsAtRest

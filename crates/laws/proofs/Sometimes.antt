@@ -2,21 +2,21 @@
 -- reached state. The rules compute.
 -- Assumes nothing.
 use Prim.Native.Nat.{ℕ}
-use mathlib.Core.Bool.{Bool}
+use mathlib.Core.Bool.{Bool, true, false, _&&_}
 use mathlib.Core.List.{List, [], _∷_, map}
 use mathlib.Core.Path.{_≡_, refl}
 use lib.Dec.{T}
 use lib.ListN.{take}
+use mir.Facts.{and-yes}
 use Rattle.controller.specs.declared.State.{State}
 use Rattle.controller.specs.Start.{freshOf}
 use Rattle.controller.specs.Steps.{stepOf}
-use Rattle.controller.specs.Shows.{generalEV, closeEV, openEV, retractEV, extendEV, gearsMove, red, invalidSensor}
-use Rattle.controller.specs.SessionS.{Row, answers, lineOf}
+use Rattle.controller.specs.Samples.{Row, answers, after, lineOf}
 use Rattle.image.specs.Images.{loadedAt}
 use Rattle.image.specs.Conditions.{Taken}
-use Rattle.laws.specs.Reached.{Reached, after}
+use Rattle.laws.specs.Reached.{Reached}
 use Rattle.laws.specs.Reached.Reached.{fresh, loaded, step}
-use Rattle.laws.specs.Laws.{Always, Sometimes, doorsOutWithoutRed, hasLastCause, hasLargestAges}
+use Rattle.laws.specs.Laws.{Always, AllSometimes, spokenOf}
 use Rattle.laws.specs.Lesson.{lesson, lessonLines, brokenSwitch}
 use Rattle.laws.proofs.Computing.{runs}
 
@@ -44,53 +44,27 @@ pub a-whole-lesson : map lineOf (answers (freshOf 0) lesson) ≡ lessonLines
 unfolding runs
 a-whole-lesson = refl
 
--- After these samples from a fresh start.
-by : (test : State → Bool) (rows : List Row) → T (test (after (freshOf 0) rows)) → Sometimes test
-by test rows h = (after (freshOf 0) rows, after-is-reached (freshOf 0) (fresh 0) rows, h)
+-- Each test holds after its samples from a fresh start.
+eachMet : List (State → Bool) → List (List Row) → Bool
+eachMet [] runs = true
+eachMet (test ∷ tests) [] = false
+eachMet (test ∷ tests) (rows ∷ more) = test (after (freshOf 0) rows) && eachMet tests more
 
--- Each order is on at some point: the laws on orders.
-pub sometimes-general : Sometimes generalEV
-unfolding runs
-sometimes-general = by generalEV (take 1 lesson) tt
+by : (tests : List (State → Bool)) (runs : List (List Row)) → T (eachMet tests runs) → AllSometimes tests
+unfolding eachMet
+by [] runs met = tt
+by (test ∷ tests) [] met = absurd met
+by (test ∷ tests) (rows ∷ more) met =
+    let parts = and-yes (test (after (freshOf 0) rows)) (eachMet tests more) met in
+    ((after (freshOf 0) rows, after-is-reached (freshOf 0) (fresh 0) rows, parts .0), by tests more (parts .1))
 
-pub sometimes-open : Sometimes openEV
-unfolding runs
-sometimes-open = by openEV (take 3 lesson) tt
-
-pub sometimes-retract : Sometimes retractEV
-unfolding runs
-sometimes-retract = by retractEV (take 6 lesson) tt
-
-pub sometimes-close : Sometimes closeEV
-unfolding runs
-sometimes-close = by closeEV (take 9 lesson) tt
-
-pub sometimes-extend : Sometimes extendEV
-unfolding runs
-sometimes-extend = by extendEV (take 15 lesson) tt
-
--- Gears move, and doors are not CLOSED without a cause: the laws on moving gears and on general_EV.
-pub sometimes-gears-move : Sometimes gearsMove
-unfolding runs
-sometimes-gears-move = by gearsMove (take 6 lesson) tt
-
-pub sometimes-doors-not-closed-without-red : Sometimes doorsOutWithoutRed
-unfolding runs
-sometimes-doors-not-closed-without-red = by doorsOutWithoutRed (take 1 lesson) tt
-
--- Red is lit and a sensor is invalid: the laws on causes. The last cause and the largest ages are met: their bounds are no lower.
-pub sometimes-red : Sometimes red
-unfolding runs
-sometimes-red = by red brokenSwitch tt
-
-pub sometimes-invalid : Sometimes invalidSensor
-unfolding runs
-sometimes-invalid = by invalidSensor brokenSwitch tt
-
-pub sometimes-cause-13 : Sometimes hasLastCause
-unfolding runs
-sometimes-cause-13 = by hasLastCause brokenSwitch tt
-
-pub sometimes-age-60000 : Sometimes hasLargestAges
-unfolding runs
-sometimes-age-60000 = by hasLargestAges [] tt
+-- Each thing that the laws speak of is met, in the lesson or with the switch that breaks: the laws are not empty.
+pub each-is-met : AllSometimes spokenOf
+unfolding runs eachMet
+each-is-met =
+    by spokenOf
+    (take 1 lesson ∷ take 9 lesson ∷ take 3 lesson ∷ take 6 lesson ∷ take 15 lesson ∷
+    take 6 lesson ∷ take 1 lesson ∷
+    brokenSwitch ∷ brokenSwitch ∷ brokenSwitch ∷ [] ∷
+    [])
+    tt

@@ -5,35 +5,18 @@ use Prim.Native.Nat.{ℕ}
 use mathlib.Core.Bool.{cond, not}
 use mathlib.Core.List.{List}
 use mathlib.Core.Path.{_≡_, refl, sym, subst, _∙_}
-use lib.Dec.{T, eqb}
-use Rattle.sequence.specs.declared.Doors.{Doors}
-use Rattle.sequence.specs.declared.Doors.the-variants.{Open}
-use Rattle.sequence.specs.declared.Gears.{Gears}
-use Rattle.sequence.specs.declared.Gears.the-variants.{Retracted, Extending, Extended, Retracting}
+use lib.Dec.{eqb}
 use Rattle.sequence.specs.declared.Place.{Place}
-use Rattle.sequence.specs.Moves.{place}
 use Rattle.sequence.specs.Numbers.{doorsAt, gearsAt}
 use Rattle.sequence.specs.Table.{numberOf, entries, factsAt, askedAt, nextOf, entryAt, canBeAsked, howMany}
-use Rattle.sequence.specs.Places.{areMoving, movingHaveOpen}
+use Rattle.sequence.specs.Places.{movingHaveOpen}
 use Rattle.sequence.proofs.Entries.{asked-at-number, table-tells}
 use Rattle.controller.specs.declared.State.{State}
-use Rattle.controller.specs.Stages.{
-  anomaly,
-  coreAges,
-  coreHandle,
-  coreMonitors,
-  coreSequence,
-  coreOrders,
-  agesStage,
-  voteStage,
-  monitorsStage,
-  sequenceStage,
-  ordersStage,
-  accepted,
-}
-use Rattle.controller.specs.Steps.{stepOf}
+use Rattle.controller.specs.Stages.{anomaly, accepted}
+use Rattle.controller.specs.Steps.{stepAt, stepOf}
 use Rattle.laws.specs.Laws.{Always}
 use Rattle.laws.specs.Wall.{askedBy, TheTableRuns, AsksWhatCanBeAsked, canBeAskedInAll}
+use Rattle.laws.proofs.Stages.{stages, coreStages}
 use Rattle.laws.proofs.Safety.{moving-gears-have-doors-open}
 
 -- ---- The table is what runs
@@ -41,7 +24,7 @@ use Rattle.laws.proofs.Safety.{moving-gears-have-doors-open}
 -- A sample that is not refused is accepted.
 taken-is-accepted : (s : State) (stamp : ℕ) (bytes : List ℕ) → stepOf s stamp bytes .refusal ≡ 0
     → stepOf s stamp bytes .state ≡ accepted s stamp bytes
-unfolding stepOf
+unfolding stepAt
 taken-is-accepted s stamp bytes taken = rw taken refl
 
 -- Without a cause there is no anomaly, and the sequence moves.
@@ -50,8 +33,7 @@ moves cause stayed next none = rw none refl
 
 accepted-runs : (s : State) (stamp : ℕ) (bytes : List ℕ) → accepted s stamp bytes .core .cause ≡ 0
     → accepted s stamp bytes .core .place ≡ entryAt (numberOf (askedBy s bytes))
-unfolding anomaly coreAges coreHandle coreMonitors coreSequence coreOrders
-    agesStage voteStage monitorsStage sequenceStage ordersStage accepted nextOf
+unfolding anomaly stages coreStages nextOf
 accepted-runs s stamp bytes none = moves _ _ _ none ∙ sym (table-tells (askedBy s bytes))
 
 pub the-table-runs : (s : State) → TheTableRuns s
@@ -62,21 +44,12 @@ the-table-runs s stamp bytes taken =
 
 -- ---- Which entries can be asked
 
--- Moving gears have doors OPEN: then a place is possible.
-possible-if : (doors : Doors) (gears : Gears) → (T (areMoving gears) → doors ≡ Open) → T (movingHaveOpen (place doors gears))
-unfolding movingHaveOpen
-possible-if doors Retracted there = tt
-possible-if doors Extending there = rw (there tt) tt
-possible-if doors Extended there = tt
-possible-if doors Retracting there = rw (there tt) tt
-
 asks-what-can-be-asked : Always AsksWhatCanBeAsked
 unfolding canBeAsked
 asks-what-can-be-asked s reached bytes =
-    rw (asked-at-number (askedBy s bytes))
-    (possible-if (s .core .place .doors) (s .core .place .gears) (moving-gears-have-doors-open s reached))
+    rw (asked-at-number (askedBy s bytes)) (moving-gears-have-doors-open s reached)
 
 -- 320 numbers below 512 can be asked, and a reached state asks no other.
-pub no-more-than-320-of-512 : (howMany canBeAsked entries ≡ canBeAskedInAll) × Always AsksWhatCanBeAsked
+pub no-more-can-be-asked : (howMany canBeAsked entries ≡ canBeAskedInAll) × Always AsksWhatCanBeAsked
 unfolding howMany canBeAsked askedAt factsAt movingHaveOpen doorsAt gearsAt
-no-more-than-320-of-512 = (refl, asks-what-can-be-asked)
+no-more-can-be-asked = (refl, asks-what-can-be-asked)

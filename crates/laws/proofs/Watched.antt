@@ -19,23 +19,11 @@ use Rattle.controller.specs.declared.Core.{Core}
 use Rattle.controller.specs.declared.State.{State}
 use Rattle.controller.specs.Votes.{someInvalid, sightOf}
 use Rattle.controller.specs.Start.{freshVoters}
-use Rattle.controller.specs.Stages.{
-  anomaly,
-  coreAges,
-  coreHandle,
-  coreMonitors,
-  coreSequence,
-  coreOrders,
-  agesStage,
-  voteStage,
-  monitorsStage,
-  sequenceStage,
-  ordersStage,
-  accepted,
-}
+use Rattle.controller.specs.Stages.{anomaly, coreMonitors, agesStage, voteStage, accepted}
 use Rattle.image.specs.Items.{lastCause}
 use Rattle.image.specs.Conditions.{InvalidSensorHasCause, CausesTo13}
-use Rattle.laws.proofs.Kept.{by-cases}
+use Rattle.laws.proofs.Tests.{by-cases}
+use Rattle.laws.proofs.Stages.{stages, coreStages}
 
 -- ---- The first of some numbered tests
 
@@ -84,11 +72,11 @@ abbrev heard : State → ℕ → List ℕ → State
 heard s stamp bytes = voteStage bytes (agesStage stamp s)
 
 pub accepted-to-13 : (s : State) (stamp : ℕ) (bytes : List ℕ) → CausesTo13 s → CausesTo13 (accepted s stamp bytes)
-unfolding accepted agesStage voteStage monitorsStage sequenceStage ordersStage coreAges coreHandle coreSequence coreOrders
+unfolding stages coreStages
 accepted-to-13 s stamp bytes before = monitors-to-13 (sightOf (heard s stamp bytes .voters)) (heard s stamp bytes .core) before
 
 pub accepted-has-cause : (s : State) (stamp : ℕ) (bytes : List ℕ) → InvalidSensorHasCause (accepted s stamp bytes)
-unfolding sightOf accepted agesStage voteStage monitorsStage sequenceStage ordersStage coreAges coreHandle coreSequence coreOrders
+unfolding sightOf stages coreStages
 accepted-has-cause s stamp bytes h = monitors-have-cause (sightOf (heard s stamp bytes .voters)) (heard s stamp bytes .core) h
 
 -- ---- A fresh start

@@ -6,18 +6,16 @@ use Rattle.voter.specs.Numbers.{numberOf}
 use Rattle.voter.specs.Cases.{voterCases, shown, afterP1}
 use Rattle.laws.specs.Cases.{
   shownAnswer,
+  answeredAfter,
   nothingSeen,
   stepFrom,
+  isOnAfter,
   opensAtGeneral,
-  opensAtOpposite,
-  closesAtOpposite,
-  retractsAtOpposite,
-  extendsAtOpposite,
+  startsAtOpposite,
   generalAtOthers,
   causeAtOpen,
   causeAtHandle,
   doorsDown,
-  doorsWord,
   stepCases,
   allCases,
 }
@@ -27,6 +25,6 @@ pub p1-to-p12 : AllAsWanted allCases
 unfolding
     rules
     voterCases shown afterP1 numberOf
-    shownAnswer nothingSeen stepFrom opensAtGeneral opensAtOpposite closesAtOpposite retractsAtOpposite extendsAtOpposite
-    generalAtOthers causeAtOpen causeAtHandle doorsDown doorsWord stepCases allCases
+    shownAnswer answeredAfter nothingSeen stepFrom isOnAfter opensAtGeneral startsAtOpposite
+    generalAtOthers causeAtOpen causeAtHandle doorsDown stepCases allCases
 p1-to-p12 = refl

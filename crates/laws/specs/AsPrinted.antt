@@ -22,9 +22,10 @@ use Rattle.controller.specs.Start.{freshOf}
 use Rattle.controller.specs.Stages.{anomaly, agesStage, voteStage, monitorsStage, ordersStage}
 use Rattle.controller.specs.Steps.{refusalOf}
 use Rattle.controller.specs.Shows.{doorsOf, gearsOf, red}
-use Rattle.controller.specs.SessionS.{Row}
-use Rattle.laws.specs.Reached.{after}
-use Rattle.laws.specs.Lesson.{sees, each100, retraction}
+use Rattle.controller.specs.Samples.{sees, Row, after}
+use Rattle.laws.specs.Bounds.{bound}
+use Rattle.laws.specs.Evenly.{evenly}
+use Rattle.laws.specs.Lesson.{retraction}
 
 -- Rule r_outgoingSequence with its sensors, gears not EXTENDED.
 abbrev pub printedOutgoing : Doors → Gears → Seen → Place
@@ -72,19 +73,15 @@ printedStates s (r ∷ rs) = printedStep s (r .0) (r .1) ∷ printedStates (prin
 
 -- From a fresh start, until gears are RETRACTED and the doors CLOSING.
 unfoldable pub closingRetracted : State
-closingRetracted = after (freshOf 0) (each100 0 retraction)
+closingRetracted = after (freshOf 0) (evenly 100 0 retraction)
 
 -- Then the handle goes down. The doors close, the pressure stays, the switch opens after 20,000 ms: no sensor lies.
 unfoldable pub handleDown : List Row
 handleDown =
-    each100 900
+    evenly 100 900
     (sees 1 1 0 1 0 0 1 ∷
     replicate 199 (sees 1 1 0 1 1 0 1) ++
     replicate 49 (sees 1 0 0 1 1 0 1))
-
--- The bound of demand 3: by then a handle held still has settled, or red is lit.
-abbrev pub bound : ℕ
-bound = 24796
 
 -- From the first sample to the last, in ms.
 abbrev lastOf : ℕ → List Row → ℕ

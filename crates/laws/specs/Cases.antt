@@ -4,20 +4,19 @@
 use mathlib.Core.Bool.{Bool, true, false}
 use mathlib.Core.List.{List, [], _∷_, _++_}
 use Prim.Native.Nat.{ℕ, _-_}
-use Rattle.common.specs.Ascii.{ascii}
 use Rattle.common.specs.Bits.{bit}
 use Rattle.common.specs.Case.{Case}
 use Rattle.voter.specs.Cases.{voterCases}
-use Rattle.sequence.specs.declared.Doors.{Doors}
 use Rattle.sequence.specs.declared.Doors.the-variants.{Closed, Opening, Open, Closing}
 use Rattle.sequence.specs.declared.Gears.the-variants.{Retracted, Extending, Extended, Retracting}
 use Rattle.sequence.specs.declared.Aim.{Aim}
 use Rattle.sequence.specs.declared.Aim.the-variants.{ToRetracted, ToExtended}
 use Rattle.sequence.specs.declared.Place.{Place}
 use Rattle.sequence.specs.Moves.{place}
+use Rattle.sequence.specs.Numbers.{doorsNumber}
 use Rattle.orders.specs.declared.Order.{Order}
 use Rattle.orders.specs.declared.Orders.{Orders}
-use Rattle.orders.specs.Timing.{order}
+use Rattle.orders.specs.Timing.{order, oldest}
 use Rattle.monitors.specs.declared.Three.{Three}
 use Rattle.monitors.specs.declared.Sight.{Sight}
 use Rattle.controller.specs.declared.Core.{Core}
@@ -25,13 +24,17 @@ use Rattle.controller.specs.declared.Answer.{Answer}
 use Rattle.controller.specs.Start.{freshOf, freshOrders}
 use Rattle.controller.specs.Stages.{elapsedOf, coreStep}
 use Rattle.controller.specs.Steps.{stepOf}
-use Rattle.controller.specs.SessionS.{sample}
+use Rattle.controller.specs.Samples.{sees}
 
 -- ---- A step of the controller
 
 -- An answer shown by its refusal and the last accepted stamp.
 unfoldable pub shownAnswer : Answer → List ℕ
 shownAnswer a = a .refusal ∷ a .state .stamp ∷ []
+
+-- P5: a fresh start at stamp 0, then a sample so many ms later.
+unfoldable pub answeredAfter : ℕ → List ℕ
+answeredAfter ms = shownAnswer (stepOf (freshOf 0) ms (sees 1 0 1 0 1 0 0))
 
 -- ---- A step of the core, of 1 ms, in which the handle does not change
 
@@ -74,64 +77,54 @@ generalOnly general others =
       extends = offFrom others;
     }
 
--- P6: doors OPENING, handle up. Is open_EV on after the step?
+-- Is an order on after the step?
+unfoldable pub isOnAfter : (Orders → Order) → Orders → Place → Aim → ℕ
+isOnAfter which os p aim = bit (which (stepFrom (coreFrom os oldest p) aim false .orders) .on)
+
+-- P6: doors OPENING, handle up, general_EV on for this age. Is open_EV on?
 unfoldable pub opensAtGeneral : ℕ → ℕ
-opensAtGeneral age = bit (stepFrom (coreFrom (generalOnly age 60000) 60000 (place Opening Extended)) ToRetracted false .orders .opens .on)
+opensAtGeneral age = isOnAfter (λ (os : Orders). os .opens) (generalOnly age oldest) (place Opening Extended) ToRetracted
 
--- P7: each of the four wanted, with general_EV on for long, its opposite (as all others) off for this age. Is it on?
-unfoldable pub opensAtOpposite : ℕ → ℕ
-opensAtOpposite age = bit (stepFrom (coreFrom (generalOnly 1000 age) 60000 (place Opening Extended)) ToRetracted false .orders .opens .on)
+-- P7: one of the four is wanted, general_EV on for long, its opposite (as all others) off for 99 ms, and for 100. Is it on?
+unfoldable pub startsAtOpposite : (Orders → Order) → Place → Aim → List ℕ
+startsAtOpposite which p aim = isOnAfter which (generalOnly 1000 99) p aim ∷ isOnAfter which (generalOnly 1000 100) p aim ∷ []
 
-unfoldable pub closesAtOpposite : ℕ → ℕ
-closesAtOpposite age = bit (stepFrom (coreFrom (generalOnly 1000 age) 60000 (place Closing Extended)) ToExtended false .orders .closes .on)
-
-unfoldable pub retractsAtOpposite : ℕ → ℕ
-retractsAtOpposite age = bit (stepFrom (coreFrom (generalOnly 1000 age) 60000 (place Open Retracting)) ToRetracted false .orders .retracts .on)
-
-unfoldable pub extendsAtOpposite : ℕ → ℕ
-extendsAtOpposite age = bit (stepFrom (coreFrom (generalOnly 1000 age) 60000 (place Open Extending)) ToExtended false .orders .extends .on)
-
--- P8: doors CLOSED, gears EXTENDED, handle down, the four off for this age. Is general_EV on after the step?
+-- P8: doors CLOSED, gears EXTENDED, handle down, the four off for this age. Is general_EV on?
 unfoldable pub generalAtOthers : ℕ → ℕ
-generalAtOthers age = bit (stepFrom (coreFrom (generalOnly 1500 age) 60000 (place Closed Extended)) ToExtended false .orders .general .on)
+generalAtOthers age = isOnAfter (λ (os : Orders). os .general) (generalOnly 1500 age) (place Closed Extended) ToExtended
 
 -- P9: open_EV on for this age, no door seen closed and none open. The cause after the step.
 unfoldable pub causeAtOpen : ℕ → ℕ
 causeAtOpen age =
-    stepFrom (coreFrom (record { general = onFrom 10000; closes = offFrom 60000; opens = onFrom age; retracts = offFrom 60000; extends = offFrom 60000 }) 60000 (place Opening Extended)) ToRetracted true .cause
+    let off : Order = offFrom oldest in
+    let os : Orders = record { general = onFrom 10000; closes = off; opens = onFrom age; retracts = off; extends = off } in
+    stepFrom (coreFrom os oldest (place Opening Extended)) ToRetracted true .cause
 
 -- P10: all at rest, the switch open at this handle age. The cause after the step.
 unfoldable pub causeAtHandle : ℕ → ℕ
 causeAtHandle since = stepFrom (coreFrom freshOrders since (place Closed Extended)) ToExtended false .cause
 
--- P11, P12: handle down. The doors after the step.
-unfoldable pub doorsDown : Place → Doors
-doorsDown p = stepFrom (coreFrom (generalOnly 1000 1000) 60000 p) ToExtended false .place .doors
-
--- Doors by their word.
-unfoldable pub doorsWord : Doors → List ℕ
-doorsWord Closed = ascii "CLOSED"
-doorsWord Opening = ascii "OPENING"
-doorsWord Open = ascii "OPEN"
-doorsWord Closing = ascii "CLOSING"
+-- P11, P12: handle down. The doors after the step, by their number.
+unfoldable pub doorsDown : Place → List ℕ
+doorsDown p = doorsNumber (stepFrom (coreFrom (generalOnly 1000 1000) oldest p) ToExtended false .place .doors) ∷ []
 
 -- ---- The list
 
 unfoldable pub stepCases : List Case
 stepCases =
     record { name = "P4 stamps 4,294,967,290 then 4: elapsed 10"; gives = elapsedOf 4294967290 4 ∷ []; wanted = 10 ∷ [] } ∷
-    record { name = "P5 elapsed 100 taken"; gives = shownAnswer (stepOf (freshOf 0) 100 (sample 1 1 1 0)); wanted = 0 ∷ 100 ∷ [] } ∷
-    record { name = "P5 elapsed 101 refused"; gives = shownAnswer (stepOf (freshOf 0) 101 (sample 1 1 1 0)); wanted = 4 ∷ 0 ∷ [] } ∷
+    record { name = "P5 elapsed 100 taken"; gives = answeredAfter 100; wanted = 0 ∷ 100 ∷ [] } ∷
+    record { name = "P5 elapsed 101 refused"; gives = answeredAfter 101; wanted = 4 ∷ 0 ∷ [] } ∷
     record { name = "P6 general age 199 holds open_EV back, 200 starts it"; gives = opensAtGeneral 199 ∷ opensAtGeneral 200 ∷ []; wanted = 0 ∷ 1 ∷ [] } ∷
-    record { name = "P7 opposite age 99 and 100: open_EV"; gives = opensAtOpposite 99 ∷ opensAtOpposite 100 ∷ []; wanted = 0 ∷ 1 ∷ [] } ∷
-    record { name = "P7 opposite age 99 and 100: close_EV"; gives = closesAtOpposite 99 ∷ closesAtOpposite 100 ∷ []; wanted = 0 ∷ 1 ∷ [] } ∷
-    record { name = "P7 opposite age 99 and 100: retract_EV"; gives = retractsAtOpposite 99 ∷ retractsAtOpposite 100 ∷ []; wanted = 0 ∷ 1 ∷ [] } ∷
-    record { name = "P7 opposite age 99 and 100: extend_EV"; gives = extendsAtOpposite 99 ∷ extendsAtOpposite 100 ∷ []; wanted = 0 ∷ 1 ∷ [] } ∷
+    record { name = "P7 opposite age 99 and 100: open_EV"; gives = startsAtOpposite (λ (os : Orders). os .opens) (place Opening Extended) ToRetracted; wanted = 0 ∷ 1 ∷ [] } ∷
+    record { name = "P7 opposite age 99 and 100: close_EV"; gives = startsAtOpposite (λ (os : Orders). os .closes) (place Closing Extended) ToExtended; wanted = 0 ∷ 1 ∷ [] } ∷
+    record { name = "P7 opposite age 99 and 100: retract_EV"; gives = startsAtOpposite (λ (os : Orders). os .retracts) (place Open Retracting) ToRetracted; wanted = 0 ∷ 1 ∷ [] } ∷
+    record { name = "P7 opposite age 99 and 100: extend_EV"; gives = startsAtOpposite (λ (os : Orders). os .extends) (place Open Extending) ToExtended; wanted = 0 ∷ 1 ∷ [] } ∷
     record { name = "P8 general stop at 999 and 1,000"; gives = generalAtOthers 999 ∷ generalAtOthers 1000 ∷ []; wanted = 1 ∷ 0 ∷ [] } ∷
     record { name = "P9 cause 2 at 6,999 and 7,000"; gives = causeAtOpen 6999 ∷ causeAtOpen 7000 ∷ []; wanted = 0 ∷ 2 ∷ [] } ∷
     record { name = "P10 switch open at handle age 999, 1,000, 19,999, 20,000: only the middle two"; gives = causeAtHandle 999 ∷ causeAtHandle 1000 ∷ causeAtHandle 19999 ∷ causeAtHandle 20000 ∷ []; wanted = 0 ∷ 11 ∷ 11 ∷ 0 ∷ [] } ∷
-    record { name = "P11 doors CLOSING, gears RETRACTED, handle down: OPENING"; gives = doorsWord (doorsDown (place Closing Retracted)); wanted = ascii "OPENING" } ∷
-    record { name = "P12 doors OPENING, gears EXTENDED, handle down: CLOSING"; gives = doorsWord (doorsDown (place Opening Extended)); wanted = ascii "CLOSING" } ∷
+    record { name = "P11 doors CLOSING, gears RETRACTED, handle down: OPENING"; gives = doorsDown (place Closing Retracted); wanted = doorsNumber Opening ∷ [] } ∷
+    record { name = "P12 doors OPENING, gears EXTENDED, handle down: CLOSING"; gives = doorsDown (place Opening Extended); wanted = doorsNumber Closing ∷ [] } ∷
     []
 
 -- P1 to P12.

@@ -9,7 +9,7 @@ use Rattle.controller.specs.declared.Answer.{Answer}
 use Rattle.controller.specs.Start.{startedAt}
 use Rattle.controller.specs.Stages.{elapsedOf}
 use Rattle.controller.specs.Steps.{stepOf}
-use Rattle.controller.specs.SessionS.{Row, answers}
+use Rattle.controller.specs.Samples.{Row, answers}
 
 -- ---- The same answers
 

@@ -2,16 +2,14 @@
 -- every state that the controller can come to; so do the conditions of request K3 (Conditions.antt of the image).
 -- Assumes nothing.
 use mathlib.Core.Bool.{Bool, true, false, not, _&&_}
-use mathlib.Core.List.{List}
-use mathlib.Core.Path.{_≡_}
+use mathlib.Core.List.{List, [], _∷_}
 use Prim.Native.Nat.{ℕ}
 use lib.Dec.{T, eqb}
-use Rattle.sequence.specs.declared.Doors.the-variants.{Open}
-use Rattle.sequence.specs.Places.{areClosed}
+use Rattle.sequence.specs.Places.{areClosed, areOpen, movingHaveOpen}
 use Rattle.controller.specs.declared.State.{State}
 use Rattle.controller.specs.Votes.{handle, sensor}
 use Rattle.controller.specs.Steps.{stepOf}
-use Rattle.controller.specs.Shows.{closeEV, openEV, retractEV, extendEV, doorsOf, gearsRest, red}
+use Rattle.controller.specs.Shows.{generalEV, closeEV, openEV, retractEV, extendEV, doorsOf, gearsMove, gearsRest, red, invalidSensor}
 use Rattle.image.specs.Items.{lastCause}
 use Rattle.orders.specs.Timing.{oldest}
 use Rattle.image.specs.Conditions.{OnHasGeneral}
@@ -55,6 +53,10 @@ Always Law = (s : State) → Reached s → Law s
 abbrev pub Sometimes : (State → Bool) → Type 0
 Sometimes test = (s : State) × Reached s × T (test s)
 
+abbrev pub AllSometimes : List (State → Bool) → Type 0
+AllSometimes [] = Unit {0}
+AllSometimes (test ∷ tests) = Sometimes test × AllSometimes tests
+
 -- ---- Document 01
 
 -- Opposites never together.
@@ -65,9 +67,13 @@ OppositesNeverTogether s = (T (openEV s) → T (closeEV s) → ⊥) × (T (retra
 abbrev pub NoneWithoutGeneral : State → Type 0
 NoneWithoutGeneral = OnHasGeneral
 
+-- Moving gears have doors OPEN: so request K3 asks it too.
+abbrev pub MovingGearsHaveDoorsOpen : State → Type 0
+MovingGearsHaveDoorsOpen s = T (movingHaveOpen (s .core .place))
+
 -- Gear orders only with doors OPEN.
 abbrev pub GearOrdersOnlyWithDoorsOpen : State → Type 0
-GearOrdersOnlyWithDoorsOpen s = (T (retractEV s) → doorsOf s ≡ Open) × (T (extendEV s) → doorsOf s ≡ Open)
+GearOrdersOnlyWithDoorsOpen s = (T (retractEV s) → T (areOpen (doorsOf s))) × (T (extendEV s) → T (areOpen (doorsOf s)))
 
 -- Door orders only with gears at rest.
 abbrev pub DoorOrdersOnlyWithGearsAtRest : State → Type 0
@@ -79,3 +85,15 @@ abbrev pub FollowsTheGroundModel : State → Type 0
 FollowsTheGroundModel s =
     (stamp : ℕ) (bytes : List ℕ) →
     OneMoveOrNone (handleOf (stepOf s stamp bytes .state)) (s .core .place) (stepOf s stamp bytes .state .core .place)
+
+-- ---- What these laws speak of
+
+abbrev pub spokenOf : List (State → Bool)
+spokenOf =
+    -- each order on
+    generalEV ∷ closeEV ∷ openEV ∷ retractEV ∷ extendEV ∷
+    -- gears move, and doors are not CLOSED without a cause
+    gearsMove ∷ doorsOutWithoutRed ∷
+    -- red is lit and a sensor is invalid; the last cause and the largest ages, so that their bounds are no lower
+    red ∷ invalidSensor ∷ hasLastCause ∷ hasLargestAges ∷
+    []

@@ -2,26 +2,12 @@
 -- show that the laws over every reached state speak of more than states at rest.
 -- Assumes nothing.
 use mathlib.Core.List.{List, [], _∷_, _++_}
-use Prim.Native.Nat.{ℕ, _+_}
+use Prim.Native.Nat.{ℕ}
 use lib.ListN.{replicate}
 use Rattle.sequence.specs.declared.Doors.the-variants.{Closed, Opening, Open, Closing}
 use Rattle.sequence.specs.declared.Gears.the-variants.{Retracted, Extending, Extended, Retracting}
-use Rattle.controller.specs.SessionS.{Row, Line, agreeing}
-
--- The sensors but handle and switch: all three gears extended, retracted, all three doors closed, open, and the pressure.
-unfoldable pub rest : ℕ → ℕ → ℕ → ℕ → ℕ → List ℕ
-rest extended retracted closed opened pressurized =
-    agreeing (replicate 3 extended ++ replicate 3 retracted ++ replicate 3 0 ++ replicate 3 closed ++ replicate 3 opened ++ pressurized ∷ [])
-
--- A sample by handle (1 = down), switch (1 = closed), gears extended, retracted, doors closed, open, and the pressure.
-unfoldable pub sees : ℕ → ℕ → ℕ → ℕ → ℕ → ℕ → ℕ → List ℕ
-sees handle switch extended retracted closed opened pressurized =
-    agreeing (handle ∷ switch ∷ []) ++ rest extended retracted closed opened pressurized
-
--- A sample each 100 ms, from this stamp on.
-unfoldable pub each100 : ℕ → List (List ℕ) → List Row
-each100 last [] = []
-each100 last (bytes ∷ more) = (last + 100, bytes) ∷ each100 (last + 100) more
+use Rattle.controller.specs.Samples.{rest, sees, Row, Line}
+use Rattle.laws.specs.Evenly.{evenly}
 
 -- Handle up, until the doors are CLOSING.
 unfoldable pub retraction : List (List ℕ)
@@ -53,7 +39,7 @@ extension =
     replicate 11 (sees 1 1 1 0 1 0 1)
 
 unfoldable pub lesson : List Row
-lesson = each100 0 (retraction ++ extension)
+lesson = evenly 100 0 (retraction ++ extension)
 
 -- What comes out: refusal; general_EV, close_EV, open_EV, retract_EV, extend_EV; doors; gears; green, orange, red.
 unfoldable pub lessonLines : List Line
@@ -84,7 +70,7 @@ lessonLines =
 -- All at rest but the switch, of which channel 3 differs and then channel 2: it is struck, then the sensor is invalid.
 unfoldable pub brokenSwitch : List Row
 brokenSwitch =
-    each100 0
+    evenly 100 0
     ((1 ∷ 1 ∷ 1 ∷ 0 ∷ 0 ∷ 1 ∷ rest 1 0 1 0 0) ∷
     (1 ∷ 1 ∷ 1 ∷ 0 ∷ 1 ∷ 0 ∷ rest 1 0 1 0 0) ∷
     [])

@@ -1,7 +1,9 @@
+pub mod Bounds
 pub mod Reached
 pub mod GroundModel
 pub mod Laws
 pub mod Cases
+pub mod Evenly
 pub mod Lesson
 pub mod AsPrinted
 pub mod HandedOver

@@ -13,18 +13,20 @@ use Rattle.sequence.specs.declared.Aim.the-variants.{ToRetracted, ToExtended}
 use Rattle.sequence.specs.declared.Place.{Place}
 use Rattle.sequence.specs.declared.Seen.{Seen}
 use Rattle.sequence.specs.Moves.{atAim, moveOf}
+use Rattle.sequence.specs.Places.{movingHaveOpen}
 use Rattle.orders.specs.Timing.{allGrown, offTogether, ordersOf}
 use Rattle.controller.specs.declared.Core.{Core}
 use Rattle.controller.specs.Votes.{seenOf}
-use Rattle.laws.proofs.Kept.{by-cases}
-use Rattle.settling.specs.Bounds.{boundFor, settled, Settled}
-use Rattle.settling.specs.CoreRuns.{Told, coreNext, coreAfter, Within, elapsedTold, MovingHaveOpen}
+use Rattle.laws.proofs.Tests.{by-cases}
+use Rattle.laws.specs.Bounds.{boundFor}
+use Rattle.settling.specs.Settled.{isHome, settled, Settled, Unsettled}
+use Rattle.settling.specs.CoreRuns.{Told, coreNext, coreAfter, Within, elapsedTold}
 use Rattle.settling.proofs.Phases.{Phase, at, onward, moves-onward, lands}
 use Rattle.settling.proofs.Phases.Phase.{opening, opened, underWay, arrived, closing, closed}
 use Rattle.settling.proofs.Five.{facing, isOver, stepped, orders-stepped, Standing, stands}
 use Rattle.settling.proofs.Left.{left, left-most, left-least, left-falls}
 use Rattle.settling.proofs.Quiet.{Quiet}
-use Rattle.settling.proofs.Stays.{isHome, Unsettled, neither, is-quiet, unsettled-before}
+use Rattle.settling.proofs.Stays.{home-settles, is-quiet, unsettled-before}
 
 -- ---- In a phase
 
@@ -45,7 +47,7 @@ not-over aim arrived c s u = tt
 not-over aim closing c s u = tt
 not-over aim closed c s u =
     absurd
-    (T-not (isHome aim (c .place)) (neither aim c u .1) (subst⁻¹ (λ (p : Place). T (isHome aim p)) (s .isAt) (home aim)))
+    (T-not (settled aim c) u (home-settles aim c (subst⁻¹ (λ (p : Place). T (isHome aim p)) (s .isAt) (home aim))))
 
 -- ---- One step that does not settle
 
@@ -71,7 +73,7 @@ module _ (aim : Aim) (c : Core) (t : Told) (u : Unsettled aim (coreNext aim c t)
         }
 
   -- The first step, from anywhere.
-  first-step : MovingHaveOpen (c .place) → (phase : Phase) × In aim phase (coreNext aim c t)
+  first-step : T (movingHaveOpen (c .place)) → (phase : Phase) × In aim phase (coreNext aim c t)
   first-step sound =
       let landed = lands aim (c .place) (seenOf (t .see)) sound in
       (landed .0, in-after (landed .0) (landed .1))
@@ -116,10 +118,10 @@ early-from limit aim phase c (t ∷ ts) w s u =
 -- The stronger form: where it is not settled, what has elapsed since the first step and the limit are together at most the bound.
 pub core-unsettled-is-early :
     (limit : ℕ) (aim : Aim) (c : Core) →
-    MovingHaveOpen (c .place) →
+    T (movingHaveOpen (c .place)) →
     (first : Told) (rest : List Told) →
     Within limit rest →
-    T (not (settled aim (coreAfter aim c (first ∷ rest)))) →
+    Unsettled aim (coreAfter aim c (first ∷ rest)) →
     elapsedTold rest + limit ≤ boundFor limit
 unfolding coreAfter
 core-unsettled-is-early limit aim c sound first rest within u =
@@ -131,7 +133,7 @@ pub core-demand-3 :
     (limit : ℕ) →
     0 < limit →
     (aim : Aim) (c : Core) →
-    MovingHaveOpen (c .place) →
+    T (movingHaveOpen (c .place)) →
     (first : Told) (rest : List Told) →
     Within limit rest →
     boundFor limit ≤ elapsedTold rest →

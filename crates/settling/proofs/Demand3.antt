@@ -1,7 +1,7 @@
 -- Demand 3 over the controller's own step and real samples, from a fresh start or a taken image (request K3). An accepted sample is a
 -- step of the core on what the votes say, and a voted handle that stays is an aim that stays: of the votes nothing else is used.
 -- Assumes nothing.
-use mathlib.Core.Bool.{Bool, true, false, not, Bool·beq}
+use mathlib.Core.Bool.{Bool, true, false, not, _&&_, Bool·beq}
 use mathlib.Core.List.{List, [], _∷_}
 use mathlib.Core.Path.{_≡_, refl, _∙_, ap}
 use Prim.Native.Nat.{ℕ, _+_, _≤_}
@@ -13,17 +13,18 @@ use Rattle.sequence.specs.Moves.{aimOf}
 use Rattle.controller.specs.declared.Core.{Core}
 use Rattle.controller.specs.declared.State.{State}
 use Rattle.controller.specs.Votes.{handle, sensor, allVoted, sightOf, aimed}
-use Rattle.controller.specs.Stages.{elapsedOf, agesStage, turned, voteStage, monitorsStage, sequenceStage, ordersStage, accepted}
-use Rattle.controller.specs.Steps.{limit, someOverOne, refusalOf, stepOf}
-use Rattle.controller.specs.SessionS.{Row}
-use Rattle.laws.specs.Reached.{Reached, after}
+use Rattle.controller.specs.Stages.{elapsedOf, turned, accepted}
+use Rattle.controller.specs.Steps.{limit, someOverOne, refusalAt, refusalOf, stepAt}
+use Rattle.controller.specs.Samples.{Row, after}
+use Rattle.laws.specs.Bounds.{boundFor, bound}
+use Rattle.laws.specs.Reached.{Reached}
+use Rattle.laws.proofs.Stages.{stages}
 use Rattle.laws.proofs.Lifted.{core-of-accepted}
 use Rattle.laws.proofs.Safety.{moving-gears-have-doors-open}
-use Rattle.settling.specs.Bounds.{boundFor, settled, Settled}
-use Rattle.settling.specs.Runs.{next, heldOne, held, Held, elapsedIn, elapsedSince}
+use Rattle.settling.specs.Runs.{next, isTaken, handleSays, held, Held, elapsedIn, elapsedSince}
+use Rattle.settling.specs.Settled.{SettlesWithin, UnsettledIsEarly}
 use Rattle.settling.specs.CoreRuns.{Told, coreNext, coreAfter, Within, elapsedTold}
 use Rattle.settling.proofs.Quiet.{none-holds}
-use Rattle.settling.proofs.Stays.{is-true}
 use Rattle.settling.proofs.CoreSettles.{core-unsettled-is-early, core-demand-3}
 
 -- ---- What samples tell the core
@@ -45,29 +46,37 @@ same true false h = absurd h
 same false true h = absurd h
 same false false h = refl
 
-module _ (down : Bool) (s : State) (r : Row) (h : T (heldOne down s r)) where
-  taken-and-held : T (eqb (refusalOf s (r .0) (r .1)) 0) × T (Bool·beq (sensor handle (next s r .voters)) down)
-  unfolding heldOne
-  taken-and-held = and-yes (eqb (refusalOf s (r .0) (r .1)) 0) (Bool·beq (sensor handle (next s r .voters)) down) h
+module _ (down : Bool) (s : State) (r : Row) (rs : List Row) (h : Held down s (r ∷ rs)) where
+  goes-on : Held down (next s r) rs
+  unfolding held
+  goes-on = and-yes (isTaken s r && handleSays down s r) (held down (next s r) rs) h .1
+
+  taken-and-says : T (isTaken s r) × T (handleSays down s r)
+  unfolding held
+  taken-and-says = and-yes (isTaken s r) (handleSays down s r) (and-yes (isTaken s r && handleSays down s r) (held down (next s r) rs) h .0)
+
+  not-refused : refusalOf s (r .0) (r .1) ≡ 0
+  unfolding isTaken
+  not-refused = eqb→eq (refusalOf s (r .0) (r .1)) 0 (taken-and-says .0)
 
   is-accepted : next s r ≡ accepted s (r .0) (r .1)
-  unfolding stepOf
-  is-accepted = rw (is-true (eqb (refusalOf s (r .0) (r .1)) 0) (taken-and-held .0))
+  unfolding stepAt
+  is-accepted = rw not-refused
 
   within-limit : elapsedOf (s .stamp) (r .0) ≤ limit
-  unfolding refusalOf
+  unfolding refusalAt
   within-limit =
       let elapsed : ℕ = elapsedOf (s .stamp) (r .0) in
       nltb→le limit elapsed
-      (none-holds 0 (not (eqb (length (r .1)) 54) ∷ someOverOne (r .1) ∷ eqb elapsed 0 ∷ ltb limit elapsed ∷ [])
-      (eqb→eq (refusalOf s (r .0) (r .1)) 0 (taken-and-held .0)) .1 .1 .1 .0)
+      (none-holds 0 (not (eqb (length (r .1)) 54) ∷ someOverOne (r .1) ∷ eqb elapsed 0 ∷ ltb limit elapsed ∷ []) not-refused .1 .1 .1 .0)
 
   voters-next : next s r .voters ≡ allVoted (r .1) (s .voters)
-  unfolding agesStage voteStage monitorsStage sequenceStage ordersStage accepted
+  unfolding stages
   voters-next = ap (λ (t : State). t .voters) is-accepted
 
   handle-held : sensor handle (allVoted (r .1) (s .voters)) ≡ down
-  handle-held = rw voters-next at (same (sensor handle (next s r .voters)) down (taken-and-held .1))
+  unfolding handleSays
+  handle-held = rw voters-next at (same (sensor handle (next s r .voters)) down (taken-and-says .1))
 
   core-next : next s r .core ≡ coreNext (aimOf down) (s .core) (toldBy s r)
   unfolding coreNext toldBy aimed
@@ -78,11 +87,6 @@ module _ (down : Bool) (s : State) (r : Row) (h : T (heldOne down s r)) where
 
 -- ---- A run
 
-held-parts :
-    (down : Bool) (s : State) (r : Row) (rs : List Row) → Held down s (r ∷ rs) → T (heldOne down s r) × Held down (next s r) rs
-unfolding held
-held-parts down s r rs h = and-yes (heldOne down s r) (held down (next s r) rs) h
-
 core-after :
     (down : Bool) (s : State) (rs : List Row) →
     Held down s rs →
@@ -90,31 +94,29 @@ core-after :
 unfolding after coreAfter allToldBy
 core-after down s [] h = refl
 core-after down s (r ∷ rs) h =
-    let parts = held-parts down s r rs h in
-    core-after down (next s r) rs (parts .1) ∙
-    ap (λ (c : Core). coreAfter (aimOf down) c (allToldBy (next s r) rs)) (core-next down s r (parts .0))
+    core-after down (next s r) rs (goes-on down s r rs h) ∙
+    ap (λ (c : Core). coreAfter (aimOf down) c (allToldBy (next s r) rs)) (core-next down s r rs h)
 
 all-within : (down : Bool) (s : State) (rs : List Row) → Held down s rs → Within limit (allToldBy s rs)
 unfolding Within allToldBy toldBy
 all-within down s [] h = tt
 all-within down s (r ∷ rs) h =
-    let parts = held-parts down s r rs h in
-    (within-limit down s r (parts .0), all-within down (next s r) rs (parts .1))
+    (within-limit down s r rs h, all-within down (next s r) rs (goes-on down s r rs h))
 
 elapsed-told : (s : State) (rs : List Row) → elapsedIn s rs ≡ elapsedTold (allToldBy s rs)
 unfolding elapsedIn elapsedTold allToldBy toldBy
 elapsed-told s [] = refl
 elapsed-told s (r ∷ rs) = ap (λ (n : ℕ). elapsedOf (s .stamp) (r .0) + n) (elapsed-told (next s r) rs)
 
--- ---- For the limit in force, whatever it is
+-- ---- What a run tells the core
 
-module _ (s : State) (reached : Reached s) (down : Bool) (first : Row) (rest : List Row) (stays : Held down s (first ∷ rest)) where
+module _ (s : State) (down : Bool) (first : Row) (rest : List Row) (stays : Held down s (first ∷ rest)) where
   told : List Told
   told = allToldBy (next s first) rest
 
   told-within : Within limit told
   unfolding told
-  told-within = all-within down (next s first) rest (held-parts down s first rest stays .1)
+  told-within = all-within down (next s first) rest (goes-on down s first rest stays)
 
   told-after : after s (first ∷ rest) .core ≡ coreAfter (aimOf down) (s .core) (toldBy s first ∷ told)
   unfolding told allToldBy
@@ -124,39 +126,26 @@ module _ (s : State) (reached : Reached s) (down : Bool) (first : Row) (rest : L
   unfolding told elapsedSince
   told-elapsed = elapsed-told (next s first) rest
 
-  settles-within : boundFor limit ≤ elapsedSince s (first ∷ rest) → Settled (aimOf down) (after s (first ∷ rest) .core)
-  settles-within late =
-      rw told-after
-      (core-demand-3 limit (lit< tt) (aimOf down) (s .core) (moving-gears-have-doors-open s reached) (toldBy s first) told told-within
-      (rw told-elapsed at late))
-
-  early-within : T (not (settled (aimOf down) (after s (first ∷ rest) .core))) → elapsedSince s (first ∷ rest) + limit ≤ boundFor limit
-  early-within u =
-      rw told-elapsed
-      (core-unsettled-is-early limit (aimOf down) (s .core) (moving-gears-have-doors-open s reached) (toldBy s first) told told-within
-      (rw told-after at u))
-
 -- ---- Demand 3
 
 -- "From any reached state, with the voted handle held still, within 24,796 ms either red is latched or the doors are closed and the
 -- gears stand where the handle asks, whatever the sensors say." Reached is from a fresh start or a taken image.
-pub demand-3 :
-    (s : State) →
-    Reached s →
-    (down : Bool) (first : Row) (rest : List Row) →
-    Held down s (first ∷ rest) →
-    24796 ≤ elapsedSince s (first ∷ rest) →
-    Settled (aimOf down) (after s (first ∷ rest) .core)
-unfolding boundFor
-demand-3 s reached down first rest stays late = settles-within s reached down first rest stays late
+pub demand-3 : SettlesWithin bound
+demand-3 s reached down first rest stays late =
+    rw (told-after s down first rest stays)
+    (core-demand-3 limit (lit< tt) (aimOf down) (s .core) (moving-gears-have-doors-open s reached) (toldBy s first) _
+    (told-within s down first rest stays)
+    (rw (told-elapsed s down first rest stays) at late))
 
 -- What is stronger: a sample at which it is not settled comes with elapsed and limit together at most that.
-pub unsettled-is-early :
-    (s : State) →
-    Reached s →
-    (down : Bool) (first : Row) (rest : List Row) →
-    Held down s (first ∷ rest) →
-    T (not (settled (aimOf down) (after s (first ∷ rest) .core))) →
-    elapsedSince s (first ∷ rest) + limit ≤ 24796
+pub unsettled-is-early : UnsettledIsEarly bound
+unsettled-is-early s reached down first rest stays u =
+    rw (told-elapsed s down first rest stays)
+    (core-unsettled-is-early limit (aimOf down) (s .core) (moving-gears-have-doors-open s reached) (toldBy s first) _
+    (told-within s down first rest stays)
+    (rw (told-after s down first rest stays) at u))
+
+-- The number that document 01 names.
+pub the-bound-in-force : bound ≡ 24796
 unfolding boundFor
-unsettled-is-early s reached down first rest stays u = early-within s reached down first rest stays u
+the-bound-in-force = refl

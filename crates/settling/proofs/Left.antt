@@ -10,7 +10,7 @@ use Rattle.sequence.specs.declared.Aim.{Aim}
 use Rattle.sequence.specs.declared.Seen.{Seen}
 use Rattle.orders.specs.declared.Order.{Order}
 use Rattle.orders.specs.Timing.{grownAge, grown, directed}
-use Rattle.settling.specs.Bounds.{boundFor}
+use Rattle.laws.specs.Bounds.{boundFor}
 use Rattle.settling.proofs.Waits.{
   lacking,
   work,

@@ -2,7 +2,8 @@
 -- the same aim leaves them there or takes them to the next. The first is so because gears move only where doors are OPEN.
 -- Assumes nothing.
 use mathlib.Core.Bool.{Bool, true, false, cond}
-use mathlib.Core.Path.{_≡_, refl, subst⁻¹}
+use mathlib.Core.Path.{_≡_, refl}
+use lib.Dec.{T}
 use Rattle.sequence.specs.declared.Doors.{Doors}
 use Rattle.sequence.specs.declared.Doors.the-variants.{Closed, Opening, Open, Closing}
 use Rattle.sequence.specs.declared.Gears.{Gears}
@@ -12,7 +13,7 @@ use Rattle.sequence.specs.declared.Aim.the-variants.{ToRetracted, ToExtended}
 use Rattle.sequence.specs.declared.Place.{Place}
 use Rattle.sequence.specs.declared.Seen.{Seen}
 use Rattle.sequence.specs.Moves.{place, atAim, nextGears, doorsToGears, doorsHome, moveOf}
-use Rattle.settling.specs.CoreRuns.{MovingHaveOpen}
+use Rattle.sequence.specs.Places.{movingHaveOpen}
 
 -- Doors OPENING and OPEN with gears at the other end, gears under way and arrived, doors CLOSING and CLOSED.
 pub data Phase : Type 0 where
@@ -113,19 +114,18 @@ from-open ToExtended Extending seen = from-phase ToExtended underWay seen
 from-open ToExtended Extended seen = from-phase ToExtended arrived seen
 from-open ToExtended Retracting seen = (underWay, refl)
 
-from-moving : (aim : Aim) (doors : Doors) (gears : Gears) (seen : Seen) → doors ≡ Open → Lands aim (place doors gears) seen
-from-moving aim doors gears seen isOpen =
-    subst⁻¹ (λ (d : Doors). Lands aim (place d gears) seen) isOpen (from-open aim gears seen)
-
 from-any :
     (aim : Aim) (doors : Doors) (gears : Gears) (seen : Seen) →
-    MovingHaveOpen (place doors gears) →
+    T (movingHaveOpen (place doors gears)) →
     Lands aim (place doors gears) seen
-unfolding moveOf atAim doorsHome doorsToGears
-from-any aim doors Extending seen h = from-moving aim doors Extending seen (h tt)
-from-any aim doors Retracting seen h = from-moving aim doors Retracting seen (h tt)
-from-any aim Open Retracted seen h = from-open aim Retracted seen
-from-any aim Open Extended seen h = from-open aim Extended seen
+unfolding movingHaveOpen moveOf atAim doorsHome doorsToGears
+from-any aim Open gears seen h = from-open aim gears seen
+from-any aim Closed Extending seen h = absurd h
+from-any aim Closed Retracting seen h = absurd h
+from-any aim Opening Extending seen h = absurd h
+from-any aim Opening Retracting seen h = absurd h
+from-any aim Closing Extending seen h = absurd h
+from-any aim Closing Retracting seen h = absurd h
 from-any ToRetracted Closed Retracted seen h = from-phase ToRetracted closed seen
 from-any ToRetracted Closed Extended seen h = (opening, refl)
 from-any ToRetracted Opening Retracted seen h = (closing, refl)
@@ -139,5 +139,5 @@ from-any ToExtended Opening Extended seen h = (closing, refl)
 from-any ToExtended Closing Retracted seen h = (opening, refl)
 from-any ToExtended Closing Extended seen h = from-phase ToExtended closing seen
 
-pub lands : (aim : Aim) (p : Place) (seen : Seen) → MovingHaveOpen p → Lands aim p seen
+pub lands : (aim : Aim) (p : Place) (seen : Seen) → T (movingHaveOpen p) → Lands aim p seen
 lands aim p seen = from-any aim (p .doors) (p .gears) seen

@@ -22,7 +22,8 @@ use Rattle.monitors.specs.declared.Sight.{Sight}
 use Rattle.monitors.specs.Causes.{causes, causeOf}
 use Rattle.controller.specs.declared.Core.{Core}
 use Rattle.controller.specs.Votes.{seenOf}
-use Rattle.controller.specs.Stages.{anomaly, coreAges, coreHandle, coreMonitors, coreSequence, coreOrders, coreStep}
+use Rattle.controller.specs.Stages.{anomaly, coreAges, coreHandle, coreStep}
+use Rattle.laws.proofs.Stages.{coreStages}
 use Rattle.settling.proofs.Phases.{seenThere}
 use Rattle.settling.proofs.Five.{facing}
 use Rattle.settling.proofs.Left.{InTime}
@@ -96,7 +97,7 @@ none-found kept found = either (eqb kept 0) refl
 pub red-or-quiet :
     (elapsed : ℕ) (turned : Bool) (aim : Aim) (see : Sight) (c : Core) →
     T (anomaly (coreStep elapsed turned aim see c)) ⊎ Quiet elapsed aim see c (coreStep elapsed turned aim see c)
-unfolding coreStep coreOrders coreSequence coreMonitors coreHandle coreAges anomaly causeOf
+unfolding coreStages anomaly causeOf
 red-or-quiet elapsed turned aim see c = either (anomaly after) refl
   where
     after : Core

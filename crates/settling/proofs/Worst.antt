@@ -1,19 +1,22 @@
--- The run of document 01 that settles 24,796 ms after its first sample, computed: the settling time cannot drop. It also shows that
--- there are runs with the handle held for so long, and that one can settle without red.
+-- The run of document 01 that settles at the bound, computed: the bound cannot drop. It also shows that there are runs with the handle
+-- held for so long, and that one can settle without red.
 -- Assumes nothing.
-use mathlib.Core.Bool.{Bool, true, false}
-use mathlib.Core.List.{List}
-use mathlib.Core.Path.{_≡_, refl}
-use Prim.Native.Nat.{ℕ}
+use mathlib.Core.Bool.{Bool, true, false, not}
+use mathlib.Core.List.{List, _∷_}
+use mathlib.Core.Path.{_≡_, refl, ap, subst, subst⁻¹}
+use Prim.Native.Nat.{ℕ, _+_, _-_, _≤_}
+use lib.Dec.{T}
 use Rattle.sequence.specs.Moves.{aimOf}
 use Rattle.controller.specs.Stages.{anomaly}
-use Rattle.controller.specs.SessionS.{Row}
-use Rattle.laws.specs.Reached.{Reached, after}
+use Rattle.controller.specs.Steps.{limit}
+use Rattle.controller.specs.Samples.{Row, after}
+use Rattle.laws.specs.Bounds.{boundFor, bound}
+use Rattle.laws.specs.Reached.{Reached}
 use Rattle.laws.specs.Reached.Reached.{fresh}
 use Rattle.laws.proofs.Computing.{runs}
-use Rattle.settling.specs.Bounds.{settled}
-use Rattle.settling.specs.Runs.{heldOne, held, elapsedIn, elapsedSince}
-use Rattle.settling.specs.WorstRuns.{evenly, rowsFrom, start, stretches, late, atLast, latest}
+use Rattle.settling.specs.Runs.{isTaken, handleSays, held, elapsedIn, elapsedSince}
+use Rattle.settling.specs.Settled.{settled, UnsettledIsEarly}
+use Rattle.settling.specs.WorstRuns.{rowsFrom, start, firstRow, stretches, closedAtLast, late, latest, unpressurized}
 
 -- What a run with the handle up shows at its last sample.
 record Shown : Type 0 where
@@ -23,20 +26,38 @@ record Shown : Type 0 where
   isSettled : Bool
 
 abbrev shown : List Row → Shown
-shown rs =
+shown rest =
     record {
-      isHeld = held false start rs;
-      since = elapsedSince start rs;
-      isRed = anomaly (after start rs .core);
-      isSettled = settled (aimOf false) (after start rs .core);
+      isHeld = held false start (firstRow ∷ rest);
+      since = elapsedSince start (firstRow ∷ rest);
+      isRed = anomaly (after start (firstRow ∷ rest) .core);
+      isSettled = settled (aimOf false) (after start (firstRow ∷ rest) .core);
     }
 
 pub starts-fresh : Reached start
 unfolding start
 starts-fresh = fresh 1000
 
-pub settles-at-24796 :
-    (shown late ≡ record { isHeld = true; since = 24696; isRed = false; isSettled = false }) ×
-    (shown latest ≡ record { isHeld = true; since = 24796; isRed = false; isSettled = true })
-unfolding runs settled heldOne held elapsedIn elapsedSince evenly rowsFrom start stretches late atLast latest
-settles-at-24796 = (refl, refl)
+-- Not settled one step before the bound, and settled at it, with no red.
+pub settles-at-the-bound :
+    (shown late ≡ record { isHeld = true; since = bound - limit; isRed = false; isSettled = false }) ×
+    (shown latest ≡ record { isHeld = true; since = bound; isRed = false; isSettled = true })
+unfolding
+    runs boundFor settled isTaken handleSays held elapsedIn elapsedSince
+    rowsFrom start firstRow stretches closedAtLast late latest
+settles-at-the-bound = (refl, refl)
+
+-- So no lower number would do.
+pub the-bound-cannot-drop : (ms : ℕ) → UnsettledIsEarly ms → bound ≤ ms
+unfolding boundFor
+the-bound-cannot-drop ms early =
+    let last = settles-at-the-bound .0 in
+    subst (λ (since : ℕ). since + limit ≤ ms) (ap (λ (x : Shown). x .since) last)
+    (early start starts-fresh false firstRow late
+    (subst⁻¹ T (ap (λ (x : Shown). x .isHeld) last) tt)
+    (subst⁻¹ (λ (isSettled : Bool). T (not isSettled)) (ap (λ (x : Shown). x .isSettled) last) tt))
+
+-- Doors OPENING settle too, once red is lit.
+pub red-settles-too : shown unpressurized ≡ record { isHeld = true; since = 2000; isRed = true; isSettled = true }
+unfolding runs settled isTaken handleSays held elapsedIn elapsedSince rowsFrom start firstRow unpressurized
+red-settles-too = refl

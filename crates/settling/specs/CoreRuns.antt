@@ -1,18 +1,13 @@
--- The same over the core alone: it is told what has elapsed, whether the voted handle changed and what is seen, which may be
+-- Demand 3 over the core alone: it is told what has elapsed, whether the voted handle changed and what is seen, which may be
 -- anything. No limit is written here, so that the bound is shown for every limit at once.
 -- Assumes nothing.
 use mathlib.Core.Bool.{Bool}
 use mathlib.Core.List.{List, [], _∷_}
-use mathlib.Core.Path.{_≡_}
 use Prim.Native.Nat.{ℕ, _+_, _≤_}
-use lib.Dec.{T}
-use Rattle.sequence.specs.declared.Doors.the-variants.{Open}
 use Rattle.sequence.specs.declared.Aim.{Aim}
-use Rattle.sequence.specs.declared.Place.{Place}
 use Rattle.monitors.specs.declared.Sight.{Sight}
 use Rattle.controller.specs.declared.Core.{Core}
 use Rattle.controller.specs.Stages.{coreStep}
-use Rattle.sequence.specs.Places.{areMoving}
 
 -- What an accepted step tells the core, beside the aim.
 pub record Told : Type 0 where
@@ -38,7 +33,3 @@ Within limit (t ∷ ts) = (t .elapsed ≤ limit) × Within limit ts
 unfoldable pub elapsedTold : List Told → ℕ
 elapsedTold [] = 0
 elapsedTold (t ∷ ts) = t .elapsed + elapsedTold ts
-
--- Moving gears have doors OPEN: all that is asked of the core before the run, and so it is in every reached state.
-abbrev pub MovingHaveOpen : Place → Type 0
-MovingHaveOpen p = T (areMoving (p .gears)) → p .doors ≡ Open

@@ -1,4 +1,4 @@
-pub mod Bounds
 pub mod Runs
+pub mod Settled
 pub mod CoreRuns
 pub mod WorstRuns

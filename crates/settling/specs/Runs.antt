@@ -1,5 +1,5 @@
--- A run of samples through the controller's own step, with the voted handle held still, from any state reached from a fresh start or a
--- taken image. A run is a list of any length: what holds at the end of every run holds at every sample of each.
+-- A run of samples through the controller's own step, with the voted handle held still. A run is a list of any length: what holds at the
+-- end of every run holds at every sample of each.
 -- Assumes nothing.
 use mathlib.Core.Bool.{Bool, true, _&&_, Bool·beq}
 use mathlib.Core.List.{List, [], _∷_}
@@ -9,20 +9,24 @@ use Rattle.controller.specs.declared.State.{State}
 use Rattle.controller.specs.Votes.{handle, sensor}
 use Rattle.controller.specs.Stages.{elapsedOf}
 use Rattle.controller.specs.Steps.{refusalOf, stepOf}
-use Rattle.controller.specs.SessionS.{Row}
+use Rattle.controller.specs.Samples.{Row}
 
 -- The state after a sample with its stamp.
 abbrev pub next : State → Row → State
 next s r = stepOf s (r .0) (r .1) .state
 
--- A sample is accepted, and after it the voted handle says this (true for down).
-unfoldable pub heldOne : Bool → State → Row → Bool
-heldOne down s r = eqb (refusalOf s (r .0) (r .1)) 0 && Bool·beq (sensor handle (next s r .voters)) down
+-- The sample is accepted ..
+unfoldable pub isTaken : State → Row → Bool
+isTaken s r = eqb (refusalOf s (r .0) (r .1)) 0
+
+-- .. and after it the voted handle says this (true for down).
+unfoldable pub handleSays : Bool → State → Row → Bool
+handleSays down s r = Bool·beq (sensor handle (next s r .voters)) down
 
 -- So it is with each sample of a run.
 unfoldable pub held : Bool → State → List Row → Bool
 held down s [] = true
-held down s (r ∷ rs) = heldOne down s r && held down (next s r) rs
+held down s (r ∷ rs) = isTaken s r && handleSays down s r && held down (next s r) rs
 
 abbrev pub Held : Bool → State → List Row → Type 0
 Held down s rs = T (held down s rs)

@@ -1,12 +1,14 @@
--- Document 01, "Both sides of each threshold": a run that settles 24,796 ms after its first sample. Each wait ends just short of its
--- threshold and so takes one step more, and what an order is for is seen only where its monitor would else find a cause.
+-- Document 01, "Both sides of each threshold": "a run that settles 24,796 ms after its first sample, so the bound can't drop". Each wait
+-- ends just short of its threshold and so takes one step more, and what an order is for is seen only where its monitor would else find
+-- a cause.
 -- Assumes nothing.
 use mathlib.Core.List.{List, [], _∷_, _++_}
-use Prim.Native.Nat.{ℕ, zero, suc, _+_, _*_}
+use Prim.Native.Nat.{ℕ, _+_, _*_}
+use lib.ListN.{replicate}
 use Rattle.controller.specs.declared.State.{State}
 use Rattle.controller.specs.Start.{freshOf}
-use Rattle.controller.specs.SessionS.{Row}
-use Rattle.laws.specs.Lesson.{sees}
+use Rattle.controller.specs.Samples.{sees, Row}
+use Rattle.laws.specs.Evenly.{evenly}
 
 -- Some samples with the same bytes, each so many ms after the one before.
 pub record Stretch : Type 0 where
@@ -19,24 +21,22 @@ abbrev pub stretch : ℕ → ℕ → ℕ → ℕ → ℕ → ℕ → ℕ → Str
 stretch samples apart switch retracted closed opened pressurized =
     record { samples = samples; apart = apart; bytes = sees 0 switch 0 retracted closed opened pressurized }
 
--- So many samples with the same bytes, the first so many ms after this stamp.
-unfoldable pub evenly : ℕ → ℕ → List ℕ → ℕ → List Row
-evenly zero apart bytes last = []
-evenly (suc n) apart bytes last = (last + apart, bytes) ∷ evenly n apart bytes (last + apart)
-
 -- One stretch after the other, the first after this stamp.
 unfoldable pub rowsFrom : ℕ → List Stretch → List Row
 rowsFrom last [] = []
-rowsFrom last (x ∷ xs) = evenly (x .samples) (x .apart) (x .bytes) last ++ rowsFrom (last + x .samples * x .apart) xs
+rowsFrom last (x ∷ xs) = evenly (x .apart) last (replicate (x .samples) (x .bytes)) ++ rowsFrom (last + x .samples * x .apart) xs
 
 unfoldable pub start : State
 start = freshOf 1000
 
--- Up to 24,696 ms after the first sample, where doors are still CLOSING.
+-- The first sample: the handle goes up, general_EV starts.
+unfoldable pub firstRow : Row
+firstRow = (1001, sees 0 1 0 0 0 0 0)
+
+-- Up to the last sample at which it is not settled: doors are still CLOSING.
 unfoldable pub stretches : List Stretch
 stretches =
-    -- the handle goes up, general_EV starts; at age 199 it still holds open_EV back
-    stretch 1 1 1 0 0 0 0 ∷
+    -- at age 199 general_EV still holds open_EV back
     stretch 1 100 1 0 0 0 1 ∷
     stretch 1 99 1 0 0 0 1 ∷
     -- open_EV to age 6,999
@@ -53,12 +53,19 @@ stretches =
     stretch 1 99 0 0 0 0 1 ∷
     []
 
-unfoldable pub late : List Row
-late = rowsFrom 1000 stretches
-
 -- Doors seen closed, 100 ms later.
-unfoldable pub atLast : Row
-atLast = (25797, sees 0 0 0 0 1 0 1)
+unfoldable pub closedAtLast : Stretch
+closedAtLast = stretch 1 100 0 0 1 0 1
+
+-- What follows the first sample, up to there, and with doors seen closed.
+unfoldable pub late : List Row
+late = rowsFrom 1001 stretches
 
 unfoldable pub latest : List Row
-latest = late ++ atLast ∷ []
+latest = rowsFrom 1001 (stretches ++ closedAtLast ∷ [])
+
+-- ---- The other way to settle
+
+-- No pressure while general_EV is on for 2,000 ms.
+unfoldable pub unpressurized : List Row
+unpressurized = rowsFrom 1001 (stretch 20 100 1 0 0 0 0 ∷ [])
