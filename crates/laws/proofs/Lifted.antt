@@ -39,6 +39,12 @@ pub core-of-accepted : (s : State) (stamp : ℕ) (bytes : List ℕ) → accepted
 unfolding stages coreStages
 core-of-accepted s stamp bytes = refl
 
+-- A sample that is not refused is accepted.
+pub taken-is-accepted : (s : State) (stamp : ℕ) (bytes : List ℕ) → stepOf s stamp bytes .refusal ≡ 0
+    → stepOf s stamp bytes .state ≡ accepted s stamp bytes
+unfolding stepAt
+taken-is-accepted s stamp bytes taken = rw taken refl
+
 -- A step keeps what every accepted step keeps.
 pub step-keeps : (P : State → Type 0) (s : State) (stamp : ℕ) (bytes : List ℕ) → P (accepted s stamp bytes) → P s → P (stepOf s stamp bytes .state)
 unfolding stepAt

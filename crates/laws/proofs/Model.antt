@@ -67,52 +67,59 @@ module _ (handle : HandleStatus) (gears : Gears) (close : (from to : Doors) → 
 not-at : (aim : Aim) (gears to : Gears) → T (atAim aim to) → T (not (atAim aim gears)) → ¬ (gears ≡ to)
 not-at aim gears to there away e = T-not (atAim aim gears) away (rw e there)
 
-module _ (gears : Gears) (away : T (not (atAim ToRetracted gears))) where
-  not-retracted : ¬ (gears ≡ Retracted)
-  unfolding atAim
-  not-retracted = not-at ToRetracted gears Retracted tt away
+-- How doors that are not OPEN leave: with the handle up as printed, with the handle down CLOSING is the added case.
+record Leave (handle : HandleStatus) (gears : Gears) : Type 0 where
+  closed : Move handle (place Closed gears) (place Opening gears)
+  opening : Move handle (place Opening gears) (place Open gears)
+  closing : Move handle (place Closing gears) (place Opening gears)
 
-  out-up :
-      ((seen : Seen) → OneMoveOrNone UP (place Open gears) (place Open (nextGears ToRetracted gears seen))) →
-      (doors : Doors) (seen : Seen) →
-      OneMoveOrNone UP (place doors gears) (doorsToGears ToRetracted (place doors gears) seen)
-  unfolding doorsToGears
-  out-up move Closed seen = one-move (printed (retracts (retraction-closed not-retracted)))
-  out-up move Opening seen = once (λ (doors : Doors). place doors gears) (seen .opened) (printed (retracts (retraction-opening not-retracted)))
-  out-up move Open seen = move seen
-  out-up move Closing seen = one-move (printed (retracts (retraction-closing not-retracted)))
+leave-up : (gears : Gears) → T (not (atAim ToRetracted gears)) → Leave UP gears
+unfolding atAim
+leave-up gears h =
+    let away = not-at ToRetracted gears Retracted tt h in
+    record {
+      closed = printed (retracts (retraction-closed away));
+      opening = printed (retracts (retraction-opening away));
+      closing = printed (retracts (retraction-closing away));
+    }
 
-module _ (gears : Gears) (away : T (not (atAim ToExtended gears))) where
-  not-extended : ¬ (gears ≡ Extended)
-  unfolding atAim
-  not-extended = not-at ToExtended gears Extended tt away
+leave-down : (gears : Gears) → T (not (atAim ToExtended gears)) → Leave DOWN gears
+unfolding atAim
+leave-down gears h =
+    let away = not-at ToExtended gears Extended tt h in
+    record {
+      closed = printed (outgoes (outgoing-closed away));
+      opening = printed (outgoes (outgoing-opening away));
+      closing = added-closing away;
+    }
 
-  out-down :
-      ((seen : Seen) → OneMoveOrNone DOWN (place Open gears) (place Open (nextGears ToExtended gears seen))) →
-      (doors : Doors) (seen : Seen) →
-      OneMoveOrNone DOWN (place doors gears) (doorsToGears ToExtended (place doors gears) seen)
-  unfolding doorsToGears
-  out-down move Closed seen = one-move (printed (outgoes (outgoing-closed not-extended)))
-  out-down move Opening seen = once (λ (doors : Doors). place doors gears) (seen .opened) (printed (outgoes (outgoing-opening not-extended)))
-  out-down move Open seen = move seen
-  -- the added case
-  out-down move Closing seen = one-move (added-closing not-extended)
+out :
+    (handle : HandleStatus) (aim : Aim) (gears : Gears) →
+    Leave handle gears →
+    ((seen : Seen) → OneMoveOrNone handle (place Open gears) (place Open (nextGears aim gears seen))) →
+    (doors : Doors) (seen : Seen) →
+    OneMoveOrNone handle (place doors gears) (doorsToGears aim (place doors gears) seen)
+unfolding doorsToGears
+out handle aim gears leave go Closed seen = one-move (leave .closed)
+out handle aim gears leave go Opening seen = once (λ (doors : Doors). place doors gears) (seen .opened) (leave .opening)
+out handle aim gears leave go Open seen = go seen
+out handle aim gears leave go Closing seen = one-move (leave .closing)
 
 -- ---- The sequence's rule, by the voted handle
 
 up : (gears : Gears) (doors : Doors) (seen : Seen) → OneMoveOrNone UP (place doors gears) (moveOf ToRetracted (place doors gears) seen)
 unfolding moveOf atAim nextGears
 up Retracted = home UP Retracted (λ from to close. printed (retracts (retraction-else close)))
-up Extending = out-up Extending tt (λ seen. one-move (printed (retracts retraction-extending)))
-up Extended = out-up Extended tt (λ seen. one-move (printed (retracts retraction-extended)))
-up Retracting = out-up Retracting tt (λ seen. once (place Open) (seen .retracted) (printed (retracts retraction-retracting)))
+up Extending = out UP ToRetracted Extending (leave-up Extending tt) (λ seen. one-move (printed (retracts retraction-extending)))
+up Extended = out UP ToRetracted Extended (leave-up Extended tt) (λ seen. one-move (printed (retracts retraction-extended)))
+up Retracting = out UP ToRetracted Retracting (leave-up Retracting tt) (λ seen. once (place Open) (seen .retracted) (printed (retracts retraction-retracting)))
 
 down : (gears : Gears) (doors : Doors) (seen : Seen) → OneMoveOrNone DOWN (place doors gears) (moveOf ToExtended (place doors gears) seen)
 unfolding moveOf atAim nextGears
-down Retracted = out-down Retracted tt (λ seen. one-move (printed (outgoes outgoing-retracted)))
-down Extending = out-down Extending tt (λ seen. once (place Open) (seen .extended) (printed (outgoes outgoing-extending)))
+down Retracted = out DOWN ToExtended Retracted (leave-down Retracted tt) (λ seen. one-move (printed (outgoes outgoing-retracted)))
+down Extending = out DOWN ToExtended Extending (leave-down Extending tt) (λ seen. once (place Open) (seen .extended) (printed (outgoes outgoing-extending)))
 down Extended = home DOWN Extended (λ from to close. printed (outgoes (outgoing-else close)))
-down Retracting = out-down Retracting tt (λ seen. one-move (printed (outgoes outgoing-retracting)))
+down Retracting = out DOWN ToExtended Retracting (leave-down Retracting tt) (λ seen. one-move (printed (outgoes outgoing-retracting)))
 
 move-of-the-model : (isDown : Bool) (p : Place) (seen : Seen) → OneMoveOrNone (statusOf isDown) p (moveOf (aimOf isDown) p seen)
 move-of-the-model true p = down (p .gears) (p .doors)

@@ -13,19 +13,14 @@ use Rattle.sequence.specs.Places.{movingHaveOpen}
 use Rattle.sequence.proofs.Entries.{asked-at-number, table-tells}
 use Rattle.controller.specs.declared.State.{State}
 use Rattle.controller.specs.Stages.{anomaly, accepted}
-use Rattle.controller.specs.Steps.{stepAt, stepOf}
+use Rattle.controller.specs.Steps.{stepOf}
 use Rattle.laws.specs.Laws.{Always}
 use Rattle.laws.specs.Wall.{askedBy, TheTableRuns, AsksWhatCanBeAsked, canBeAskedInAll}
 use Rattle.laws.proofs.Stages.{stages, coreStages}
+use Rattle.laws.proofs.Lifted.{taken-is-accepted}
 use Rattle.laws.proofs.Safety.{moving-gears-have-doors-open}
 
 -- ---- The table is what runs
-
--- A sample that is not refused is accepted.
-taken-is-accepted : (s : State) (stamp : ℕ) (bytes : List ℕ) → stepOf s stamp bytes .refusal ≡ 0
-    → stepOf s stamp bytes .state ≡ accepted s stamp bytes
-unfolding stepAt
-taken-is-accepted s stamp bytes taken = rw taken refl
 
 -- Without a cause there is no anomaly, and the sequence moves.
 moves : (cause : ℕ) (stayed next : Place) → cause ≡ 0 → cond (not (eqb cause 0)) stayed next ≡ next

@@ -19,8 +19,8 @@ use Rattle.controller.specs.declared.Core.{Core}
 use Rattle.controller.specs.Votes.{seenOf}
 use Rattle.laws.proofs.Tests.{by-cases}
 use Rattle.laws.specs.Bounds.{boundFor}
-use Rattle.settling.specs.Settled.{isHome, settled, Settled, Unsettled}
-use Rattle.settling.specs.CoreRuns.{Told, coreNext, coreAfter, Within, elapsedTold}
+use Rattle.settling.specs.Settled.{isHome, settled, Unsettled, SettledWithin, UnsettledIsEarly}
+use Rattle.settling.specs.CoreRuns.{Told, coreNext, coreAfter, Within, elapsedTold, OfEveryCoreRun}
 use Rattle.settling.proofs.Phases.{Phase, at, onward, moves-onward, lands}
 use Rattle.settling.proofs.Phases.Phase.{opening, opened, underWay, arrived, closing, closed}
 use Rattle.settling.proofs.Five.{facing, isOver, stepped, orders-stepped, Standing, stands}
@@ -116,28 +116,14 @@ early-from limit aim phase c (t ∷ ts) w s u =
 -- ---- Demand 3 of the core, for every limit, those from 100 to 1,000 among them
 
 -- The stronger form: where it is not settled, what has elapsed since the first step and the limit are together at most the bound.
-pub core-unsettled-is-early :
-    (limit : ℕ) (aim : Aim) (c : Core) →
-    T (movingHaveOpen (c .place)) →
-    (first : Told) (rest : List Told) →
-    Within limit rest →
-    Unsettled aim (coreAfter aim c (first ∷ rest)) →
-    elapsedTold rest + limit ≤ boundFor limit
+pub core-unsettled-is-early : (limit : ℕ) → OfEveryCoreRun limit (UnsettledIsEarly limit (boundFor limit))
 unfolding coreAfter
 core-unsettled-is-early limit aim c sound first rest within u =
     let next : Core = coreNext aim c first in
     let landed = first-step aim c first (unsettled-before aim next rest u) sound in
     le-trans (early-from limit aim (landed .0) next rest within (landed .1) u) (left-most limit (facing aim (next .orders)) (landed .0))
 
-pub core-demand-3 :
-    (limit : ℕ) →
-    0 < limit →
-    (aim : Aim) (c : Core) →
-    T (movingHaveOpen (c .place)) →
-    (first : Told) (rest : List Told) →
-    Within limit rest →
-    boundFor limit ≤ elapsedTold rest →
-    Settled aim (coreAfter aim c (first ∷ rest))
+pub core-demand-3 : (limit : ℕ) → 0 < limit → OfEveryCoreRun limit (SettledWithin (boundFor limit))
 core-demand-3 limit positive aim c sound first rest within late =
     by-cases (settled aim (coreAfter aim c (first ∷ rest))) T (λ isSettled. tt)
     (λ u. absurd (omega (arith, core-unsettled-is-early limit aim c sound first rest within u)))

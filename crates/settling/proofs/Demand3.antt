@@ -9,21 +9,21 @@ use lib.Dec.{T, eqb, ltb, eqb→eq, nltb→le, lit<}
 use lib.ListN.{length}
 use mir.Facts.{and-yes}
 use Rattle.voter.specs.declared.Voter.{Voter}
+use Rattle.sequence.specs.declared.Aim.{Aim}
 use Rattle.sequence.specs.Moves.{aimOf}
 use Rattle.controller.specs.declared.Core.{Core}
 use Rattle.controller.specs.declared.State.{State}
 use Rattle.controller.specs.Votes.{handle, sensor, allVoted, sightOf, aimed}
 use Rattle.controller.specs.Stages.{elapsedOf, turned, accepted}
-use Rattle.controller.specs.Steps.{limit, someOverOne, refusalAt, refusalOf, stepAt}
+use Rattle.controller.specs.Steps.{limit, someOverOne, refusalAt, stepAt, stepOf}
 use Rattle.controller.specs.Samples.{Row, after}
 use Rattle.laws.specs.Bounds.{boundFor, bound}
-use Rattle.laws.specs.Reached.{Reached}
 use Rattle.laws.proofs.Stages.{stages}
-use Rattle.laws.proofs.Lifted.{core-of-accepted}
+use Rattle.laws.proofs.Lifted.{core-of-accepted, taken-is-accepted}
 use Rattle.laws.proofs.Safety.{moving-gears-have-doors-open}
 use Rattle.settling.specs.Runs.{next, isTaken, handleSays, held, Held, elapsedIn, elapsedSince}
-use Rattle.settling.specs.Settled.{SettlesWithin, UnsettledIsEarly}
-use Rattle.settling.specs.CoreRuns.{Told, coreNext, coreAfter, Within, elapsedTold}
+use Rattle.settling.specs.Settled.{SettledWithin, UnsettledIsEarly, OfEveryRun}
+use Rattle.settling.specs.CoreRuns.{Told, coreNext, coreAfter, Within, elapsedTold, OfEveryCoreRun}
 use Rattle.settling.proofs.Quiet.{none-holds}
 use Rattle.settling.proofs.CoreSettles.{core-unsettled-is-early, core-demand-3}
 
@@ -55,16 +55,15 @@ module _ (down : Bool) (s : State) (r : Row) (rs : List Row) (h : Held down s (r
   unfolding held
   taken-and-says = and-yes (isTaken s r) (handleSays down s r) (and-yes (isTaken s r && handleSays down s r) (held down (next s r) rs) h .0)
 
-  not-refused : refusalOf s (r .0) (r .1) ≡ 0
+  not-refused : stepOf s (r .0) (r .1) .refusal ≡ 0
   unfolding isTaken
-  not-refused = eqb→eq (refusalOf s (r .0) (r .1)) 0 (taken-and-says .0)
+  not-refused = eqb→eq (stepOf s (r .0) (r .1) .refusal) 0 (taken-and-says .0)
 
   is-accepted : next s r ≡ accepted s (r .0) (r .1)
-  unfolding stepAt
-  is-accepted = rw not-refused
+  is-accepted = taken-is-accepted s (r .0) (r .1) not-refused
 
   within-limit : elapsedOf (s .stamp) (r .0) ≤ limit
-  unfolding refusalAt
+  unfolding stepAt refusalAt
   within-limit =
       let elapsed : ℕ = elapsedOf (s .stamp) (r .0) in
       nltb→le limit elapsed
@@ -108,42 +107,24 @@ unfolding elapsedIn elapsedTold allToldBy toldBy
 elapsed-told s [] = refl
 elapsed-told s (r ∷ rs) = ap (λ (n : ℕ). elapsedOf (s .stamp) (r .0) + n) (elapsed-told (next s r) rs)
 
--- ---- What a run tells the core
-
-module _ (s : State) (down : Bool) (first : Row) (rest : List Row) (stays : Held down s (first ∷ rest)) where
-  told : List Told
-  told = allToldBy (next s first) rest
-
-  told-within : Within limit told
-  unfolding told
-  told-within = all-within down (next s first) rest (goes-on down s first rest stays)
-
-  told-after : after s (first ∷ rest) .core ≡ coreAfter (aimOf down) (s .core) (toldBy s first ∷ told)
-  unfolding told allToldBy
-  told-after = core-after down s (first ∷ rest) stays
-
-  told-elapsed : elapsedSince s (first ∷ rest) ≡ elapsedTold told
-  unfolding told elapsedSince
-  told-elapsed = elapsed-told (next s first) rest
+-- What holds of every run of the core holds of every run of samples.
+by-the-core : (Says : ℕ → Aim → Core → Type 0) → OfEveryCoreRun limit Says → OfEveryRun Says
+unfolding elapsedSince allToldBy
+by-the-core Says ofTheCore s reached down first rest stays =
+    rw (core-after down s (first ∷ rest) stays, elapsed-told (next s first) rest)
+    (ofTheCore (aimOf down) (s .core) (moving-gears-have-doors-open s reached) (toldBy s first) (allToldBy (next s first) rest)
+    (all-within down (next s first) rest (goes-on down s first rest stays)))
 
 -- ---- Demand 3
 
 -- "From any reached state, with the voted handle held still, within 24,796 ms either red is latched or the doors are closed and the
 -- gears stand where the handle asks, whatever the sensors say." Reached is from a fresh start or a taken image.
-pub demand-3 : SettlesWithin bound
-demand-3 s reached down first rest stays late =
-    rw (told-after s down first rest stays)
-    (core-demand-3 limit (lit< tt) (aimOf down) (s .core) (moving-gears-have-doors-open s reached) (toldBy s first) _
-    (told-within s down first rest stays)
-    (rw (told-elapsed s down first rest stays) at late))
+pub demand-3 : OfEveryRun (SettledWithin bound)
+demand-3 = by-the-core (SettledWithin bound) (core-demand-3 limit (lit< tt))
 
 -- What is stronger: a sample at which it is not settled comes with elapsed and limit together at most that.
-pub unsettled-is-early : UnsettledIsEarly bound
-unsettled-is-early s reached down first rest stays u =
-    rw (told-elapsed s down first rest stays)
-    (core-unsettled-is-early limit (aimOf down) (s .core) (moving-gears-have-doors-open s reached) (toldBy s first) _
-    (told-within s down first rest stays)
-    (rw (told-after s down first rest stays) at u))
+pub unsettled-is-early : OfEveryRun (UnsettledIsEarly limit bound)
+unsettled-is-early = by-the-core (UnsettledIsEarly limit bound) (core-unsettled-is-early limit)
 
 -- The number that document 01 names.
 pub the-bound-in-force : bound ≡ 24796

@@ -1,5 +1,5 @@
--- A number that bounds the time left in each phase. A step without a cause takes off it what has elapsed, it is never over 24,196 ms
--- plus six times the limit, and it is no less than a step until doors are CLOSED.
+-- A number that bounds the time left in each phase. A step without a cause takes off it what has elapsed, it is never over the
+-- bound, and it is no less than a step until doors are CLOSED.
 -- Assumes nothing.
 use mathlib.Core.Bool.{Bool, true, false, cond, not}
 use mathlib.Core.Path.{_≡_}
@@ -11,9 +11,12 @@ use Rattle.sequence.specs.declared.Seen.{Seen}
 use Rattle.orders.specs.declared.Order.{Order}
 use Rattle.orders.specs.Timing.{grownAge, grown, directed}
 use Rattle.laws.specs.Bounds.{boundFor}
+use Rattle.laws.proofs.Tests.{by-cases}
 use Rattle.settling.proofs.Waits.{
   lacking,
   work,
+  doorTop,
+  gearTop,
   IsTop,
   door-top,
   gear-top,
@@ -32,21 +35,21 @@ use Rattle.settling.proofs.Five.{Five, isOver, stepped, Standing, gener
 -- Until doors are open, until gears are there, and until doors are closed, with the order for it on or off.
 abbrev opensLeft : ℕ → Five → ℕ
 opensLeft limit f =
-    work limit 6999 (f .opens) (lacking (f .general .age) (f .closes .age)) (lacking (f .general .age) (f .against .age))
+    work limit doorTop (f .opens) (lacking (f .general .age) (f .closes .age)) (lacking (f .general .age) (f .against .age))
 
 abbrev gearsLeft : ℕ → Five → ℕ
 gearsLeft limit f =
-    work limit 9999 (f .towards) (lacking (f .general .age) (f .against .age)) (lacking (f .general .age) (f .opens .age))
+    work limit gearTop (f .towards) (lacking (f .general .age) (f .against .age)) (lacking (f .general .age) (f .opens .age))
 
 abbrev closesLeft : ℕ → Five → ℕ
-closesLeft limit f = work limit 6999 (f .closes) (lacking (f .general .age) (f .opens .age)) 0
+closesLeft limit f = work limit doorTop (f .closes) (lacking (f .general .age) (f .opens .age)) 0
 
 -- The same still ahead: a step for the move that starts it, and then its order.
 abbrev gearsAhead : ℕ → ℕ
-gearsAhead limit = limit + (9999 + limit)
+gearsAhead limit = limit + (gearTop + limit)
 
 abbrev closesAhead : ℕ → ℕ
-closesAhead limit = limit + (6999 + limit)
+closesAhead limit = limit + (doorTop + limit)
 
 abbrev pub left : ℕ → Phase → Five → ℕ
 left limit opening f = opensLeft limit f + (gearsAhead limit + closesAhead limit)
@@ -59,27 +62,27 @@ left limit closed f = 0
 -- ---- It is at most the bound
 
 module _ (limit w : ℕ) where
-  opens-most : w ≤ 199 + limit + (6999 + limit) → w + (gearsAhead limit + closesAhead limit) ≤ boundFor limit
+  opens-most : w ≤ 199 + limit + (doorTop + limit) → w + (gearsAhead limit + closesAhead limit) ≤ boundFor limit
   unfolding boundFor
   opens-most h = omega arith
 
-  gears-most : w ≤ 199 + limit + (9999 + limit) → w + closesAhead limit ≤ boundFor limit
+  gears-most : w ≤ 199 + limit + (gearTop + limit) → w + closesAhead limit ≤ boundFor limit
   unfolding boundFor
   gears-most h = omega arith
 
-  closes-most : w ≤ 199 + limit + (6999 + limit) → w ≤ boundFor limit
+  closes-most : w ≤ 199 + limit + (doorTop + limit) → w ≤ boundFor limit
   unfolding boundFor
   closes-most h = omega arith
 
 module _ (limit : ℕ) (f : Five) where
   gears-left-most : gearsLeft limit f + closesAhead limit ≤ boundFor limit
-  gears-left-most = gears-most limit _ (work-most limit 9999 (f .towards) _ _ gear-top (lacking-most _ _) (lacking-most _ _))
+  gears-left-most = gears-most limit _ (work-most limit gearTop (f .towards) _ _ gear-top (lacking-most _ _) (lacking-most _ _))
 
   closes-left-most : closesLeft limit f ≤ boundFor limit
-  closes-left-most = closes-most limit _ (work-most limit 6999 (f .closes) _ 0 door-top (lacking-most _ _) zero-le)
+  closes-left-most = closes-most limit _ (work-most limit doorTop (f .closes) _ 0 door-top (lacking-most _ _) zero-le)
 
   pub left-most : (phase : Phase) → left limit phase f ≤ boundFor limit
-  left-most opening = opens-most limit _ (work-most limit 6999 (f .opens) _ _ door-top (lacking-most _ _) (lacking-most _ _))
+  left-most opening = opens-most limit _ (work-most limit doorTop (f .opens) _ _ door-top (lacking-most _ _) (lacking-most _ _))
   left-most opened = gears-left-most
   left-most underWay = gears-left-most
   left-most arrived = closes-left-most
@@ -92,20 +95,20 @@ more : (a b k : ℕ) → a ≤ b → a ≤ b + k
 more a b k h = omega arith
 
 pub left-least : (limit : ℕ) (f : Five) (phase : Phase) → T (not (isOver phase)) → limit ≤ left limit phase f
-left-least limit f opening h = more limit _ _ (work-least limit 6999 (f .opens) _ _)
-left-least limit f opened h = more limit _ _ (work-least limit 9999 (f .towards) _ _)
-left-least limit f underWay h = more limit _ _ (work-least limit 9999 (f .towards) _ _)
-left-least limit f arrived h = work-least limit 6999 (f .closes) _ _
-left-least limit f closing h = work-least limit 6999 (f .closes) _ _
+left-least limit f opening h = more limit _ _ (work-least limit doorTop (f .opens) _ _)
+left-least limit f opened h = more limit _ _ (work-least limit gearTop (f .towards) _ _)
+left-least limit f underWay h = more limit _ _ (work-least limit gearTop (f .towards) _ _)
+left-least limit f arrived h = work-least limit doorTop (f .closes) _ _
+left-least limit f closing h = work-least limit doorTop (f .closes) _ _
 left-least limit f closed h = absurd h
 
 -- ---- A step without a cause takes off it what has elapsed
 
 -- No monitor finds an order on for too long with its work not done.
 pub record InTime (elapsed : ℕ) (aim : Aim) (seen : Seen) (f : Five) : Type 0 where
-  pub opens : T (not (seen .opened)) → T (f .opens .on) → grownAge elapsed (f .opens .age) ≤ 6999
-  pub towards : T (not (seenThere aim seen)) → T (f .towards .on) → grownAge elapsed (f .towards .age) ≤ 9999
-  pub closes : T (not (seen .closed)) → T (f .closes .on) → grownAge elapsed (f .closes .age) ≤ 6999
+  pub opens : T (not (seen .opened)) → T (f .opens .on) → grownAge elapsed (f .opens .age) ≤ doorTop
+  pub towards : T (not (seenThere aim seen)) → T (f .towards .on) → grownAge elapsed (f .towards .age) ≤ gearTop
+  pub closes : T (not (seen .closed)) → T (f .closes .on) → grownAge elapsed (f .closes .age) ≤ doorTop
 
 -- An order that is not wanted yet starts first.
 unwanted-work :
@@ -117,10 +120,10 @@ then : (elapsed w w′ ahead : ℕ) → elapsed + w′ ≤ w → elapsed + (w′
 then elapsed w w′ ahead h = omega arith
 
 module _ (limit elapsed w lacks : ℕ) (done : elapsed + lacks ≤ w) where
-  gears-next : elapsed + (lacks + limit + (9999 + limit) + closesAhead limit) ≤ w + (gearsAhead limit + closesAhead limit)
+  gears-next : elapsed + (lacks + limit + (gearTop + limit) + closesAhead limit) ≤ w + (gearsAhead limit + closesAhead limit)
   gears-next = omega arith
 
-  closing-next : elapsed + (lacks + limit + (6999 + limit)) ≤ w + closesAhead limit
+  closing-next : elapsed + (lacks + limit + (doorTop + limit)) ≤ w + closesAhead limit
   closing-next = omega arith
 
 module _ (limit elapsed : ℕ) (within : elapsed ≤ limit) (stops : Bool) (f : Five) where
@@ -152,69 +155,56 @@ module _ (limit elapsed : ℕ) (within : elapsed ≤ limit) (stops : Bool) (f : 
         is-done limit elapsed top within isTop o lacks _ _ (lacking-most _ _) (lacking-falls elapsed (f .general .age) (next .age))
 
   -- Doors are OPENING: they are seen open, or open_EV starts or goes on.
-  opening-falls :
-      Standing opening f →
-      (seen : Bool) →
-      (T (not seen) → T (f .opens .on) → grownAge elapsed (f .opens .age) ≤ 6999) →
-      FallsTo opening (cond seen opened opening)
+  opening-done : Standing opening f → FallsTo opening opened
   unfolding FallsTo
-  opening-falls s true inTime =
-      rw (unwanted-work limit 9999, general-age elapsed stops (f .general) (s .general tt), off-age elapsed _ _ (f .against) (s .against))
-      (gears-next limit elapsed _ _ (done 6999 door-top (f .opens) (f .against) _))
-  opening-falls s false inTime =
+  opening-done s =
+      rw (unwanted-work limit gearTop, general-age elapsed stops (f .general) (s .general tt), off-age elapsed _ _ (f .against) (s .against))
+      (gears-next limit elapsed _ _ (done doorTop door-top (f .opens) (f .against) _))
+
+  opens-fall : Standing opening f → (T (f .opens .on) → grownAge elapsed (f .opens .age) ≤ doorTop) → FallsTo opening opening
+  unfolding FallsTo
+  opens-fall s inTime =
       then elapsed _ _ _
       (rw (
         general-age elapsed stops (f .general) (s .general tt),
         off-age elapsed _ _ (f .closes) (s .closes),
         off-age elapsed _ _ (f .against) (s .against),
       )
-      (goes 6999 door-top (f .opens) (f .against) (f .closes) (s .general tt) (s .closes) (inTime tt)))
+      (goes doorTop door-top (f .opens) (f .against) (f .closes) (s .general tt) (s .closes) inTime))
 
-  -- Gears start or go on towards the aim.
+  -- Gears start or go on towards the aim; or they are seen there.
   gears-fall :
       T (f .general .on) →
       (T (f .opens .on) → ⊥) →
       (T (f .against .on) → ⊥) →
-      (T (f .towards .on) → grownAge elapsed (f .towards .age) ≤ 9999) →
+      (T (f .towards .on) → grownAge elapsed (f .towards .age) ≤ gearTop) →
       FallsTo underWay underWay
   unfolding FallsTo
   gears-fall g o a inTime =
       then elapsed _ _ _
       (rw (general-age elapsed stops (f .general) g, off-age elapsed _ _ (f .opens) o, off-age elapsed _ _ (f .against) a)
-      (goes 9999 gear-top (f .towards) (f .opens) (f .against) g a inTime))
+      (goes gearTop gear-top (f .towards) (f .opens) (f .against) g a inTime))
 
-  -- Gears are under way: they are seen at the aim, or they go on.
-  under-way-falls :
-      Standing underWay f →
-      (seen : Bool) →
-      (T (not seen) → T (f .towards .on) → grownAge elapsed (f .towards .age) ≤ 9999) →
-      FallsTo underWay (cond seen arrived underWay)
+  under-way-done : Standing underWay f → FallsTo underWay arrived
   unfolding FallsTo
-  under-way-falls s true inTime =
-      rw (unwanted-work limit 6999, general-age elapsed stops (f .general) (s .general tt), off-age elapsed _ _ (f .opens) (s .opens))
-      (closing-next limit elapsed _ _ (done 9999 gear-top (f .towards) (f .opens) _))
-  under-way-falls s false inTime = gears-fall (s .general tt) (s .opens) (s .against) (inTime tt)
+  under-way-done s =
+      rw (unwanted-work limit doorTop, general-age elapsed stops (f .general) (s .general tt), off-age elapsed _ _ (f .opens) (s .opens))
+      (closing-next limit elapsed _ _ (done gearTop gear-top (f .towards) (f .opens) _))
 
-  -- Close_EV starts or goes on.
+  -- Close_EV starts or goes on; or doors are seen closed.
   closes-fall :
       T (f .general .on) →
       (T (f .opens .on) → ⊥) →
-      (T (f .closes .on) → grownAge elapsed (f .closes .age) ≤ 6999) →
+      (T (f .closes .on) → grownAge elapsed (f .closes .age) ≤ doorTop) →
       FallsTo closing closing
   unfolding FallsTo
   closes-fall g o inTime =
       rw (general-age elapsed stops (f .general) g, off-age elapsed _ _ (f .opens) o)
-      (goes-on limit elapsed 6999 within door-top (f .general) (f .opens) (f .closes) 0 0 g o inTime zero-le (omega arith))
+      (goes-on limit elapsed doorTop within door-top (f .general) (f .opens) (f .closes) 0 0 g o inTime zero-le (omega arith))
 
-  -- Doors are CLOSING: they are seen closed, or close_EV starts or goes on.
-  closing-falls :
-      Standing closing f →
-      (seen : Bool) →
-      (T (not seen) → T (f .closes .on) → grownAge elapsed (f .closes .age) ≤ 6999) →
-      FallsTo closing (cond seen closed closing)
+  closing-done : FallsTo closing closed
   unfolding FallsTo
-  closing-falls s true inTime = is-done limit elapsed 6999 within door-top (f .closes) _ 0 0 zero-le (omega arith)
-  closing-falls s false inTime = closes-fall (s .general tt) (s .opens) (inTime tt)
+  closing-done = is-done limit elapsed doorTop within door-top (f .closes) _ 0 0 zero-le (omega arith)
 
   pub left-falls :
       (aim : Aim) (seen : Seen) (phase : Phase) →
@@ -223,9 +213,15 @@ module _ (limit elapsed : ℕ) (within : elapsed ≤ limit) (stops : Bool) (f : 
       InTime elapsed aim seen f →
       elapsed + left limit (onward aim seen phase) (stepped elapsed stops (onward aim seen phase) f) ≤ left limit phase f
   unfolding FallsTo
-  left-falls aim seen opening n s t = opening-falls s (seen .opened) (t .opens)
+  left-falls aim seen opening n s t =
+      by-cases (seen .opened) (λ (there : Bool). FallsTo opening (cond there opened opening)) (λ there. opening-done s)
+      (λ away. opens-fall s (t .opens away))
   left-falls aim seen opened n s t = gears-fall (s .general tt) (s .opens) (s .against) (λ on. absurd (s .towards on))
-  left-falls aim seen underWay n s t = under-way-falls s (seenThere aim seen) (t .towards)
+  left-falls aim seen underWay n s t =
+      by-cases (seenThere aim seen) (λ (there : Bool). FallsTo underWay (cond there arrived underWay)) (λ there. under-way-done s)
+      (λ away. gears-fall (s .general tt) (s .opens) (s .against) (t .towards away))
   left-falls aim seen arrived n s t = closes-fall (s .general tt) (s .opens) (λ on. absurd (s .closes on))
-  left-falls aim seen closing n s t = closing-falls s (seen .closed) (t .closes)
+  left-falls aim seen closing n s t =
+      by-cases (seen .closed) (λ (there : Bool). FallsTo closing (cond there closed closing)) (λ there. closing-done)
+      (λ away. closes-fall (s .general tt) (s .opens) (t .closes away))
   left-falls aim seen closed n s t = absurd n

@@ -24,6 +24,7 @@ use Rattle.controller.specs.declared.Core.{Core}
 use Rattle.controller.specs.Votes.{seenOf}
 use Rattle.controller.specs.Stages.{anomaly, coreAges, coreHandle, coreStep}
 use Rattle.laws.proofs.Stages.{coreStages}
+use Rattle.settling.proofs.Waits.{doorTop, gearTop}
 use Rattle.settling.proofs.Phases.{seenThere}
 use Rattle.settling.proofs.Five.{facing}
 use Rattle.settling.proofs.Left.{InTime}
@@ -64,19 +65,19 @@ module _ (elapsed since : ℕ) (see : Sight) (os : Orders) (none : None (causes 
       (aim : Aim) →
       T (not (seenThere aim (seenOf see))) →
       T (facing aim os .towards .on) →
-      grownAge elapsed (facing aim os .towards .age) ≤ 9999
+      grownAge elapsed (facing aim os .towards .age) ≤ gearTop
   unfolding causes allGrown seenOf
-  gears-in-time ToRetracted = in-time 9999 elapsed (os .retracts) (see .retracted .all) (none .1 .1 .1 .1 .1 .0)
-  gears-in-time ToExtended = in-time 9999 elapsed (os .extends) (see .extended .all) (none .1 .1 .1 .1 .1 .1 .1 .0)
+  gears-in-time ToRetracted = in-time gearTop elapsed (os .retracts) (see .retracted .all) (none .1 .1 .1 .1 .1 .0)
+  gears-in-time ToExtended = in-time gearTop elapsed (os .extends) (see .extended .all) (none .1 .1 .1 .1 .1 .1 .1 .0)
 
   -- With causes 2 and 4.
   all-in-time : (aim : Aim) → InTime elapsed aim (seenOf see) (facing aim os)
   unfolding causes allGrown seenOf
   all-in-time aim =
       record {
-        opens = in-time 6999 elapsed (os .opens) (see .opened .all) (none .1 .0);
+        opens = in-time doorTop elapsed (os .opens) (see .opened .all) (none .1 .0);
         towards = gears-in-time aim;
-        closes = in-time 6999 elapsed (os .closes) (see .closed .all) (none .1 .1 .1 .0);
+        closes = in-time doorTop elapsed (os .closes) (see .closed .all) (none .1 .1 .1 .0);
       }
 
 -- ---- Red or quiet

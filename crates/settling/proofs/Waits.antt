@@ -7,7 +7,7 @@ use Prim.Native.Nat.{ℕ, _+_, _-_, _≤_, _<_, max}
 use native.Mathlib.Omega.{arith}
 use lib.Dec.{T, leb, nleb→lt}
 use Rattle.orders.specs.declared.Order.{Order}
-use Rattle.orders.specs.Timing.{order, grownAge, grown, onFor, offFor, switched, directed}
+use Rattle.orders.specs.Timing.{oldest, order, grownAge, grown, onFor, offFor, switched, directed}
 use Rattle.laws.proofs.Tests.{by-cases}
 
 -- What an order that is off still waits for, by the ages of general_EV and of its opposite: it starts within this and one step.
@@ -23,15 +23,21 @@ work limit top o lacks next = cond (o .on) (max (top - o .age + limit) next) (la
 abbrev pub Falls : ℕ → ℕ → ℕ → Type 0
 Falls elapsed before later = later + elapsed ≤ max before elapsed
 
--- The last ages without a cause: 6,999 for a door order, 9,999 for a gear order.
+-- The last ages without a cause, of a door order and of a gear order.
+abbrev pub doorTop : ℕ
+doorTop = 6999
+
+abbrev pub gearTop : ℕ
+gearTop = 9999
+
 pub record IsTop (top : ℕ) : Type 0 where
   pub low : 199 ≤ top
-  pub high : top ≤ 9999
+  pub high : top ≤ gearTop
 
-pub door-top : IsTop 6999
+pub door-top : IsTop doorTop
 door-top = record { low = omega arith; high = omega arith }
 
-pub gear-top : IsTop 9999
+pub gear-top : IsTop gearTop
 gear-top = record { low = omega arith; high = omega arith }
 
 -- ---- At most, and at least
@@ -52,7 +58,7 @@ module _ (limit top : ℕ) (o : Order) (lacks next : ℕ) where
 
 -- ---- Ages grow
 
-less : (top elapsed age : ℕ) → top ≤ 60000 → top - grownAge elapsed age ≡ top - age - elapsed
+less : (top elapsed age : ℕ) → top ≤ oldest → top - grownAge elapsed age ≡ top - age - elapsed
 unfolding grownAge
 less top elapsed age h = omega arith
 

@@ -15,7 +15,7 @@ use Rattle.laws.specs.Reached.{Reached}
 use Rattle.laws.specs.Reached.Reached.{fresh}
 use Rattle.laws.proofs.Computing.{runs}
 use Rattle.settling.specs.Runs.{isTaken, handleSays, held, elapsedIn, elapsedSince}
-use Rattle.settling.specs.Settled.{settled, UnsettledIsEarly}
+use Rattle.settling.specs.Settled.{settled, UnsettledIsEarly, OfEveryRun}
 use Rattle.settling.specs.WorstRuns.{rowsFrom, start, firstRow, stretches, closedAtLast, late, latest, unpressurized}
 
 -- What a run with the handle up shows at its last sample.
@@ -48,7 +48,7 @@ unfolding
 settles-at-the-bound = (refl, refl)
 
 -- So no lower number would do.
-pub the-bound-cannot-drop : (ms : ℕ) → UnsettledIsEarly ms → bound ≤ ms
+pub the-bound-cannot-drop : (ms : ℕ) → OfEveryRun (UnsettledIsEarly limit ms) → bound ≤ ms
 unfolding boundFor
 the-bound-cannot-drop ms early =
     let last = settles-at-the-bound .0 in

@@ -4,7 +4,9 @@
 use mathlib.Core.Bool.{Bool}
 use mathlib.Core.List.{List, [], _∷_}
 use Prim.Native.Nat.{ℕ, _+_, _≤_}
+use lib.Dec.{T}
 use Rattle.sequence.specs.declared.Aim.{Aim}
+use Rattle.sequence.specs.Places.{movingHaveOpen}
 use Rattle.monitors.specs.declared.Sight.{Sight}
 use Rattle.controller.specs.declared.Core.{Core}
 use Rattle.controller.specs.Stages.{coreStep}
@@ -33,3 +35,13 @@ Within limit (t ∷ ts) = (t .elapsed ≤ limit) × Within limit ts
 unfoldable pub elapsedTold : List Told → ℕ
 elapsedTold [] = 0
 elapsedTold (t ∷ ts) = t .elapsed + elapsedTold ts
+
+-- From any place where moving gears have doors OPEN, as in every reached state, over every run of one step or more with one aim, and
+-- elapsed times within the limit after the first.
+abbrev pub OfEveryCoreRun : ℕ → (ℕ → Aim → Core → Type 0) → Type 0
+OfEveryCoreRun limit Says =
+    (aim : Aim) (c : Core) →
+    T (movingHaveOpen (c .place)) →
+    (first : Told) (rest : List Told) →
+    Within limit rest →
+    Says (elapsedTold rest) aim (coreAfter aim c (first ∷ rest))

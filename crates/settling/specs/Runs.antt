@@ -8,7 +8,7 @@ use lib.Dec.{T, eqb}
 use Rattle.controller.specs.declared.State.{State}
 use Rattle.controller.specs.Votes.{handle, sensor}
 use Rattle.controller.specs.Stages.{elapsedOf}
-use Rattle.controller.specs.Steps.{refusalOf, stepOf}
+use Rattle.controller.specs.Steps.{stepOf}
 use Rattle.controller.specs.Samples.{Row}
 
 -- The state after a sample with its stamp.
@@ -17,7 +17,7 @@ next s r = stepOf s (r .0) (r .1) .state
 
 -- The sample is accepted ..
 unfoldable pub isTaken : State → Row → Bool
-isTaken s r = eqb (refusalOf s (r .0) (r .1)) 0
+isTaken s r = eqb (stepOf s (r .0) (r .1) .refusal) 0
 
 -- .. and after it the voted handle says this (true for down).
 unfoldable pub handleSays : Bool → State → Row → Bool

@@ -12,7 +12,6 @@ use Rattle.sequence.specs.Places.{areClosed}
 use Rattle.controller.specs.declared.Core.{Core}
 use Rattle.controller.specs.declared.State.{State}
 use Rattle.controller.specs.Stages.{anomaly}
-use Rattle.controller.specs.Steps.{limit}
 use Rattle.controller.specs.Samples.{Row, after}
 use Rattle.laws.specs.Reached.{Reached}
 use Rattle.settling.specs.Runs.{Held, elapsedSince}
@@ -31,22 +30,21 @@ Settled aim c = T (settled aim c)
 abbrev pub Unsettled : Aim → Core → Type 0
 Unsettled aim c = T (not (settled aim c))
 
--- Settled within so many ms of the first sample of a run.
-abbrev pub SettlesWithin : ℕ → Type 0
-SettlesWithin ms =
-    (s : State) →
-    Reached s →
-    (down : Bool) (first : Row) (rest : List Row) →
-    Held down s (first ∷ rest) →
-    ms ≤ elapsedSince s (first ∷ rest) →
-    Settled (aimOf down) (after s (first ∷ rest) .core)
+-- ---- What is said of a run, by what has elapsed since its first sample, the aim, and the core at its last
 
--- What is stronger: a sample at which it is not settled comes with elapsed and limit together at most so many ms.
-abbrev pub UnsettledIsEarly : ℕ → Type 0
-UnsettledIsEarly ms =
+-- Within so many ms it is settled.
+abbrev pub SettledWithin : ℕ → ℕ → Aim → Core → Type 0
+SettledWithin ms elapsed aim c = ms ≤ elapsed → Settled aim c
+
+-- What is stronger: where it is not settled, elapsed and the limit are together at most so many ms.
+abbrev pub UnsettledIsEarly : ℕ → ℕ → ℕ → Aim → Core → Type 0
+UnsettledIsEarly limit ms elapsed aim c = Unsettled aim c → elapsed + limit ≤ ms
+
+-- From any reached state, over every run of one sample or more with the voted handle held still.
+abbrev pub OfEveryRun : (ℕ → Aim → Core → Type 0) → Type 0
+OfEveryRun Says =
     (s : State) →
     Reached s →
     (down : Bool) (first : Row) (rest : List Row) →
     Held down s (first ∷ rest) →
-    Unsettled (aimOf down) (after s (first ∷ rest) .core) →
-    elapsedSince s (first ∷ rest) + limit ≤ ms
+    Says (elapsedSince s (first ∷ rest)) (aimOf down) (after s (first ∷ rest) .core)
