@@ -8,9 +8,9 @@ use mathlib.Core.Path.{_≡_, refl, sym, subst, _∙_}
 use lib.Dec.{eqb}
 use Rattle.sequence.specs.declared.Place.{Place}
 use Rattle.sequence.specs.Numbers.{doorsAt, gearsAt}
-use Rattle.sequence.specs.Table.{numberOf, entries, factsAt, askedAt, nextOf, entryAt, canBeAsked, howMany}
+use Rattle.table.specs.Table.{numberOf, entries, factsAt, askedAt, nextOf, entryAt, canBeAsked, howMany}
 use Rattle.sequence.specs.Places.{movingHaveOpen}
-use Rattle.sequence.proofs.Entries.{asked-at-number, table-tells}
+use Rattle.table.proofs.Entries.{asked-at-number, table-tells}
 use Rattle.controller.specs.declared.State.{State}
 use Rattle.controller.specs.Stages.{anomaly, accepted}
 use Rattle.controller.specs.Steps.{stepOf}

@@ -5,8 +5,8 @@ use mathlib.Core.List.{List}
 use mathlib.Core.Path.{_≡_}
 use lib.Dec.{T}
 use Rattle.voter.specs.declared.Voter.{Voter}
-use Rattle.sequence.specs.declared.Asked.{Asked}
-use Rattle.sequence.specs.Table.{numberOf, entryAt, canBeAsked}
+use Rattle.table.specs.declared.Asked.{Asked}
+use Rattle.table.specs.Table.{numberOf, entryAt, canBeAsked}
 use Rattle.controller.specs.declared.State.{State}
 use Rattle.controller.specs.Votes.{allVoted, sightOf, seenOf, aimed}
 use Rattle.controller.specs.Steps.{stepOf}
