@@ -4,10 +4,12 @@ use Prim.Native.Nat.{ℕ, suc, _+_, _-_, _/_, _%_, _^_, _<_, _≤_}
 use native.Mathlib.Nat.{le-antisymm, add-assoc, add-zero, zero-add}
 use native.Mathlib.Numerals.{add-one}
 use native.Mathlib.Omega.{arith}
+use mathlib.Core.Bool.{Bool, true, false}
 use mathlib.Core.List.{List, [], _∷_, _++_, append-assoc, append-nil}
 use mathlib.Core.Path.{_≡_, refl, sym, ap, subst, _∙_}
 use Rattle.common.proofs.Pairs.{both}
-use borrow.Author.Tests.{le-leb, lt-leb}
+use borrow.Author.Tests.{le-leb, lt-leb, leb-true, leb-false}
+use lib.Dec.{leb}
 use lib.ListN.{length, getD, set, take, drop, length-append, length-set, length-take, length-drop, take-append-drop}
 use lib.Seq.{
   paste,
@@ -81,6 +83,13 @@ module _ {before : List ℕ} {at : ℕ} {piece after : List ℕ} {next : ℕ} (r
 pub put-nothing : (line : List ℕ) (at : ℕ) → Put line at [] line at
 put-nothing line at =
     record { place = sym (add-zero at); size = refl; text = sym (append-nil (take at line)); past = refl }
+
+-- So it is by the rule, with room or without.
+pub put-empty : (line : List ℕ) (at : ℕ) → (at, line) ≡ putOf line at []
+put-empty line at = by-test (leb (at + 0) (length line)) refl where
+  by-test : (t : Bool) → leb (at + 0) (length line) ≡ t → (at, line) ≡ putOf line at []
+  by-test true e = as-put (leb-true _ _ e) (put-nothing line at)
+  by-test false e = no-room line at [] (leb-false _ _ e)
 
 -- Two pieces, the second after the first, are one.
 pub then : {before : List ℕ} {at : ℕ} {one between : List ℕ} {next : ℕ} {two after : List ℕ} {last : ℕ}

@@ -1,0 +1,4 @@
+pub mod Lengths
+pub mod Numbered
+pub mod Once
+pub mod Starts

@@ -1,0 +1,46 @@
+-- `names::put_doors` meets its contract: the text holds the doors' words by their number.
+-- Assumes nothing.
+use borrow.Author.Needs.{needs}
+use Rattle.common.specs.Ascii.{joinedByCommas}
+use Rattle.names.proofs.Numbered.{doorsWords, doors-word}
+use Rattle.names.proofs.Starts.{fits, word-is-entry}
+use Rattle.names.proofs.put_doors.Statement.{statement}
+use Rattle.names.proofs.put_doors.Tie as tie
+
+slice-aggregate-put-word : tie.Need-slice-aggregate-put-word
+slice-aggregate-put-word c = search needs
+
+slice-aggregate-put-word-2 : tie.Need-slice-aggregate-put-word-2
+slice-aggregate-put-word-2 c = search needs
+
+number-requires : tie.Need-number-requires
+number-requires c κs = search needs
+
+cast-put-word : tie.Need-cast-put-word
+cast-put-word c = search needs
+
+put-word-requires : tie.Need-put-word-requires
+unfolding joinedByCommas
+put-word-requires c κs = fits doorsWords _
+
+same-length : tie.Need-same-length
+same-length c = search needs
+
+returns : tie.Need-returns
+unfolding joinedByCommas
+returns c =
+    let put = c .before .before in
+    let number = put .before in
+    rw (word-is-entry doorsWords (number .number .result), number .number .ensures, doors-word (number .before .before .before .before .before .args .doors)) at (put .put-word .ensures)
+
+pub put-doors-spec : {M : Type 1} → statement M
+put-doors-spec =
+    tie.close
+    (tie.spec
+    slice-aggregate-put-word
+    slice-aggregate-put-word-2
+    number-requires
+    cast-put-word
+    put-word-requires
+    same-length
+    returns)
