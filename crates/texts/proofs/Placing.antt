@@ -1,8 +1,7 @@
 -- A piece of text in a line, byte by byte or its last digit first, and the text that the line then holds.
 -- Assumes nothing.
 use Prim.Native.Nat.{ℕ, suc, _+_, _-_, _/_, _%_, _^_, _<_, _≤_}
-use native.Mathlib.Nat.{le-antisymm, add-assoc, add-zero, zero-add}
-use native.Mathlib.Numerals.{add-one}
+use native.Mathlib.Nat.{add-assoc, add-zero, zero-add}
 use native.Mathlib.Omega.{arith}
 use mathlib.Core.Bool.{Bool, true, false}
 use mathlib.Core.List.{List, [], _∷_, _++_, append-assoc, append-nil}
@@ -10,13 +9,13 @@ use mathlib.Core.Path.{_≡_, refl, sym, ap, subst, _∙_}
 use Rattle.common.proofs.Pairs.{both}
 use borrow.Author.Tests.{le-leb, lt-leb, leb-true, leb-false}
 use lib.Dec.{leb}
+use borrow.Rule.Slice.PartMut.{midOf, postOf, putMid}
 use lib.ListN.{length, getD, set, take, drop, length-append, length-set, length-take, length-drop, take-append-drop}
 use lib.Seq.{
-  paste,
-  paste-suc,
   take-length,
   take-at,
   drop-at,
+  drop-append-le,
   drop-drop,
   take-set-le,
   drop-cons,
@@ -79,6 +78,20 @@ module _ {before : List ℕ} {at : ℕ} {piece after : List ℕ} {next : ℕ} (r
       long : length (placed before at piece) ≡ length before
       long = simp (length-append, length-take, length-drop) (omega arith)
 
+-- A piece copied into the part of the line from its place on.
+pub copied : (line : List ℕ) (at n : ℕ) (piece part : List ℕ) → at + length piece ≤ length line → n ≡ length piece
+    → part ≡ take (length piece) piece ++ drop (length piece) (midOf at (length line - at) line)
+    → (at + n, putMid at (length line - at) line part) ≡ putOf line at piece
+unfolding putOf
+copied line at n piece part room long e =
+    let all = length line - at in
+    let k : length piece ≤ length (midOf at all line) = simp (length-take, length-drop) (omega arith) in
+    let behind : drop (length piece) (midOf at all line) ++ postOf at all line ≡ drop (at + length piece) line =
+    sym (drop-append-le (length piece) (midOf at all line) (postOf at all line) k)
+    ∙ ap (drop (length piece)) (take-append-drop all (drop at line))
+    ∙ drop-drop (length piece) at line in
+    rw (le-leb (at + length piece) (length line) room, long, e, take-length piece, append-assoc piece (drop (length piece) (midOf at all line)) (postOf at all line), behind, append-assoc (take at line) piece (drop (at + length piece) line))
+
 -- Nothing is put.
 pub put-nothing : (line : List ℕ) (at : ℕ) → Put line at [] line at
 put-nothing line at =
@@ -123,21 +136,6 @@ module _ {before piece after : List ℕ} {next : ℕ} (p : Put before 0 piece af
       ∙ ap (λ (l : List ℕ). l ++ drop next after) (p .text)
       ∙ ap (λ (l : List ℕ). piece ++ l) (p .past)
       ∙ ap (λ (k : ℕ). piece ++ drop k before) front-next
-
--- ---- From the first byte on: `paste line at piece i` is the line with the first i bytes of the piece.
-
-module _ (before line : List ℕ) (at : ℕ) (piece : List ℕ) (i : ℕ) (so-far : line ≡ paste before at piece i) where
-  pub one-byte-more : at + length piece ≤ length before → i < length piece → set line (at + i) (getD piece i 0) ≡ paste before at piece (i + 1)
-  one-byte-more room more =
-      ap (λ (l : List ℕ). set l (at + i) (getD piece i 0)) so-far
-      ∙ paste-suc before at piece i 0 (omega arith) more
-      ∙ ap (λ (k : ℕ). paste before at piece k) (sym (add-one i))
-
-  pub all-bytes : i ≤ length piece → length piece ≤ i → line ≡ placed before at piece
-  all-bytes low high =
-      so-far
-      ∙ ap (λ (k : ℕ). paste before at piece k) (le-antisymm low high)
-      ∙ ap (λ (p : List ℕ). take at before ++ p ++ drop (at + length piece) before) (take-length piece)
 
 -- ---- From the last digit on: the digits before the place are still to come.
 

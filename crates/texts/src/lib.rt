@@ -14,6 +14,35 @@ pub fn on_off(on: bool) -> u8
     if on { b'1' } else { b'0' }
 }
 
+// Puts a piece of text into the line: the place after it, or the same place where there is no room for it.
+pub fn put(line: &mut [u8], at: usize, piece: &[u8]) -> usize
+    ensures { λ r. ⌜ (r, now (line .exit)) ≡ putOf (now (line .entry)) at (now (piece .entry)) ⌝ }
+{
+    let size = line.len();
+    if size < at {
+        return at;
+    }
+    if size - at < piece.len() {
+        return at;
+    }
+    at + bytes::copy(piece, &mut line[at..])
+}
+
+// The same for a number.
+pub fn put_number(line: &mut [u8], at: usize, n: u64) -> usize
+    ensures { λ r. ⌜ (r, now (line .exit)) ≡ putOf (now (line .entry)) at (decimal n) ⌝ }
+{
+    let digits = width(n);
+    let size = line.len();
+    if size < at {
+        return at;
+    }
+    if size - at < digits {
+        return at;
+    }
+    number_all(line, at, n, digits)
+}
+
 // The byte of a digit.
 fn digit(d: u64) -> u8
     requires { ⌜ d < 10 ⌝ }
@@ -50,46 +79,4 @@ fn number_all(line: &mut [u8], at: usize, n: u64, digits: usize) -> usize
     }
     line[at] = digit(rest);
     next
-}
-
-// Puts a piece of text where there is room for it.
-fn put_all(line: &mut [u8], at: usize, piece: &[u8]) -> usize
-    requires { ⌜ at + length (now piece) ≤ length (now line) ⌝ }
-    ensures { λ r. ⌜ Put (now (line .entry)) at (now (piece .entry)) (now (line .exit)) r ⌝ }
-{
-    let mut i = 0;
-    while i < piece.len() {
-        line[at + i] = piece[i];
-        i += 1;
-    }
-    at + i
-}
-
-// Puts a piece of text into the line: the place after it, or the same place where there is no room for it.
-pub fn put(line: &mut [u8], at: usize, piece: &[u8]) -> usize
-    ensures { λ r. ⌜ (r, now (line .exit)) ≡ putOf (now (line .entry)) at (now (piece .entry)) ⌝ }
-{
-    let size = line.len();
-    if size < at {
-        return at;
-    }
-    if size - at < piece.len() {
-        return at;
-    }
-    put_all(line, at, piece)
-}
-
-// The same for a number.
-pub fn put_number(line: &mut [u8], at: usize, n: u64) -> usize
-    ensures { λ r. ⌜ (r, now (line .exit)) ≡ putOf (now (line .entry)) at (decimal n) ⌝ }
-{
-    let digits = width(n);
-    let size = line.len();
-    if size < at {
-        return at;
-    }
-    if size - at < digits {
-        return at;
-    }
-    number_all(line, at, n, digits)
 }
