@@ -13,7 +13,8 @@ use Rattle.sequence.specs.declared.Gears.{Gears}
 use Rattle.sequence.specs.declared.Place.{Place}
 use Rattle.sequence.specs.declared.Seen.{Seen}
 use Rattle.sequence.specs.Numbers.{doorsNumber, gearsNumber}
-use Rattle.sequence.specs.Table.{handleNumber, entries, askedAt, nextOf}
+use Rattle.sequence.specs.Table.{entries, askedAt, nextOf}
+use Rattle.sequence.specs.Numbers.{handleNumber}
 use Rattle.sequence.specs.Places.{movingHaveOpen}
 use Rattle.output.specs.Rows.{crlf, onOff, doorsWord, gearsWord}
 

@@ -10,7 +10,7 @@ use Rattle.sequence.specs.declared.Doors.the-variants.{Closed, Opening, Open, C
 use Rattle.sequence.specs.declared.Gears.{Gears}
 use Rattle.sequence.specs.declared.Gears.the-variants.{Retracted, Extending, Extended, Retracting}
 use Rattle.sequence.specs.Numbers.{doorsNumber, gearsNumber}
-use Rattle.sequence.specs.Table.{handleNumber}
+use Rattle.sequence.specs.Numbers.{handleNumber}
 use Rattle.names.specs.Words.{entry, doorsWord, gearsWord, handleWord}
 
 abbrev pub doorsWords : List (List ℕ)

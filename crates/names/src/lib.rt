@@ -2,7 +2,6 @@
 // A name or word that has no room in the line is not put, and the place stays; so it is where there is none at the place asked for.
 ghost use mathlib.Core.Path.{_≡_};
 ghost use Rattle.common.specs.Ascii.{joinedByCommas};
-ghost use Rattle.sequence.specs.Table.{handleNumber};
 ghost use Rattle.texts.specs.Puts.{putOf};
 ghost use Rattle.names.specs.Words.{
   entry,
@@ -133,16 +132,6 @@ pub fn put_handle(line: &mut [u8], at: usize, aim: Aim) -> usize
         at,
         &tables::HANDLES,
         &tables::HANDLE_STARTS,
-        handle_number(aim),
+        aim.number() as usize,
     )
-}
-
-// Handle up is 0, down is 1.
-fn handle_number(aim: Aim) -> usize
-    ensures { λ r. ⌜ r ≡ handleNumber aim ⌝ }
-{
-    match aim {
-        Aim::ToRetracted => 0,
-        Aim::ToExtended => 1,
-    }
 }

@@ -13,8 +13,11 @@ slice-aggregate-put-word c = search needs
 slice-aggregate-put-word-2 : tie.Need-slice-aggregate-put-word-2
 slice-aggregate-put-word-2 c = search needs
 
-handle-number-requires : tie.Need-handle-number-requires
-handle-number-requires c κs = search needs
+number-requires : tie.Need-number-requires
+number-requires c κs = search needs
+
+cast-put-word : tie.Need-cast-put-word
+cast-put-word c = search needs
 
 put-word-requires : tie.Need-put-word-requires
 unfolding joinedByCommas
@@ -28,7 +31,7 @@ unfolding joinedByCommas
 returns c =
     let put = c .before .before in
     let number = put .before in
-    rw (word-is-entry handleWords (number .handle-number .result), number .handle-number .ensures, handle-word (number .before .before .before .before .before .args .aim)) at (put .put-word .ensures)
+    rw (word-is-entry handleWords (number .number .result), number .number .ensures, handle-word (number .before .before .before .before .before .args .aim)) at (put .put-word .ensures)
 
 pub put-handle-spec : {M : Type 1} → statement M
 put-handle-spec =
@@ -36,7 +39,8 @@ put-handle-spec =
     (tie.spec
     slice-aggregate-put-word
     slice-aggregate-put-word-2
-    handle-number-requires
+    number-requires
+    cast-put-word
     put-word-requires
     same-length
     returns)
