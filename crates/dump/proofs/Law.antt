@@ -11,6 +11,7 @@ use lib.Dec.{eqb, leb, ltb}
 use lib.ListN.{length}
 use lib.Seq.{take-append-seam}
 use Rattle.dump.specs.declared.Dump.{Dump}
+use Rattle.dump.specs.Wires.{wires}
 use Rattle.dump.specs.Dumps.{Moment, RisesFrom, Rising, headText, momentText, laterText, dumpOf}
 use Rattle.dump.specs.Writes.{noTime, placed, startsWith, startOf, nextOf}
 use Rattle.dump.specs.Runs.{Call, AllWires, wrote, writtenInAll, taken}
@@ -73,7 +74,7 @@ in-time : (dump : Dump) (call : Call) → noTime dump (call .elapsed) ≡ false
     → (dump .time < dump .time + call .elapsed) × (dump .time + call .elapsed < 2 ^ 64)
 in-time dump call e = later (dump .time) (call .elapsed) _ _ refl refl e
 
-module _ (dump : Dump) (call : Call) (calls : List Call) (wide : length (call .values) ≡ 26) where
+module _ (dump : Dump) (call : Call) (calls : List Call) (wide : length (call .values) ≡ wires) where
   rises-by : (late short : Bool) → noTime dump (call .elapsed) ≡ late → ltb (length (call .out)) (length (textOf dump call)) ≡ short
       → ((d : Dump) → RisesFrom (d .time) (taken d calls))
       → RisesFrom (dump .time) (taken dump (call ∷ calls))
@@ -88,6 +89,6 @@ unfolding taken
 later-rise dump [] wide = Prim.tt
 later-rise dump (call ∷ calls) wide = rises-by dump call calls (wide .0) _ _ refl refl (λ d. later-rise d calls (wide .1))
 
-pub all-rise : (values : List Bool) (calls : List Call) → length values ≡ 26 → AllWires calls
+pub all-rise : (values : List Bool) (calls : List Call) → length values ≡ wires → AllWires calls
     → Rising (record { time = 0; values = values } ∷ taken (startsWith values) calls)
 all-rise values calls wide all = (refl, wide, later-rise (startsWith values) calls all)

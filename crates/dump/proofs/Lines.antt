@@ -1,25 +1,79 @@
 -- The lines of the wires, one wire after the other: what each turn of a loop over the wires adds to the text.
 -- Assumes nothing.
-use Prim.Native.Nat.{ℕ, zero, suc, _+_, _*_, _<_, _≤_}
+use Prim.Native.Nat.{ℕ, zero, suc, _+_, _-_, _*_, _<_, _≤_}
 use native.Mathlib.Nat.{add-zero, add-suc, suc-add, le-of-suc-le-suc, not-suc-le-zero}
 use native.Mathlib.Numerals.{add-one}
 use native.Mathlib.Omega.{arith}
 use mathlib.Core.Bool.{Bool, true, false, Bool·beq}
 use mathlib.Core.List.{List, [], _∷_, _++_, append-assoc, append-nil}
 use mathlib.Core.Path.{_≡_, refl, sym, ap, _∙_}
-use lib.ListN.{length, getD, take, length-append}
-use Rattle.dump.specs.Wires.{wireNames, firstCode}
-use Rattle.dump.specs.Dumps.{declarations, openingText, closingText, valueLine, valueLines, differ, changeLine, changesFrom, timeLine, timed}
+use lib.ListN.{length, getD, take, length-append, List·getD-append}
+use lib.Seq.{getD-append-add}
+use Rattle.names.specs.Words.{entry, orderNames, lampNames, sensorNames}
+use Rattle.dump.specs.Wires.{wireNames, wires, firstCode}
+use Rattle.dump.specs.Dumps.{
+  linesFrom,
+  declaration,
+  declarations,
+  linesBefore,
+  linesBehind,
+  openingText,
+  closingText,
+  openingLength,
+  closingLength,
+  valueLine,
+  valueLines,
+  differ,
+  changeLine,
+  changesFrom,
+  timeLine,
+  timed,
+}
+
+-- There is a name for each wire.
+pub names-length : length wireNames ≡ wires
+unfolding wireNames orderNames lampNames sensorNames
+names-length = refl
 
 -- What every dump begins with.
-pub opening-length : length openingText ≡ 995
-unfolding openingText wireNames declarations
+pub opening-length : length openingText ≡ openingLength
+unfolding openingText linesFrom declaration wireNames orderNames lampNames sensorNames
 opening-length = refl
 
+-- What stands before the declarations, these, and what stands behind them.
+pub opening-parts : length linesBefore + length (declarations firstCode wireNames) + length linesBehind ≡ openingLength
+unfolding linesFrom declaration wireNames orderNames lampNames sensorNames
+opening-parts = refl
+
+pub declaration-length : (code : ℕ) (name : List ℕ) → length (declaration code name) ≡ 20 + length name
+unfolding declaration
+declaration-length code name = simp length-append (omega arith)
+
 -- What follows the first values.
-pub closing-length : length closingText ≡ 5
+pub closing-length : length closingText ≡ closingLength
 unfolding closingText
 closing-length = refl
+
+-- ---- The name of a wire, by whether it is an order, a lamp or a sensor
+
+pub order-name : (wire : ℕ) → wire < 5 → entry orderNames wire ≡ entry wireNames wire
+unfolding wireNames orderNames lampNames
+order-name wire h =
+    sym (List·getD-append (orderNames ++ lampNames) sensorNames [] wire (omega arith) ∙ List·getD-append orderNames lampNames [] wire h)
+
+pub lamp-name : (wire : ℕ) → 5 ≤ wire → wire < 8 → entry lampNames (wire - 5) ≡ entry wireNames wire
+unfolding wireNames orderNames lampNames
+lamp-name wire h k =
+    let place : length orderNames + (wire - 5) ≡ wire = omega arith in
+    sym (List·getD-append (orderNames ++ lampNames) sensorNames [] wire k
+    ∙ ap (λ (n : ℕ). getD (orderNames ++ lampNames) n []) (sym place) ∙ getD-append-add orderNames lampNames (wire - 5) [])
+
+pub sensor-name : (wire : ℕ) → 8 ≤ wire → entry sensorNames (wire - 8) ≡ entry wireNames wire
+unfolding wireNames orderNames lampNames
+sensor-name wire h =
+    let place : length (orderNames ++ lampNames) + (wire - 8) ≡ wire = omega arith in
+    sym (ap (λ (n : ℕ). getD (orderNames ++ lampNames ++ sensorNames) n []) (sym place)
+    ∙ getD-append-add (orderNames ++ lampNames) sensorNames (wire - 8) [])
 
 -- ---- One wire more
 
@@ -27,14 +81,27 @@ closing-length = refl
 next-code : (code i : ℕ) → suc code + i ≡ code + suc i
 next-code code i = suc-add code i ∙ sym (add-suc code i)
 
-values-more : (code i : ℕ) (vs : List Bool) → i < length vs
-    → valueLines code (take (suc i) vs) ≡ valueLines code (take i vs) ++ valueLine (code + i) (getD vs i false)
-unfolding valueLines
-values-more code i [] h = absurd (not-suc-le-zero h)
-values-more code zero (v ∷ vs) h = rw (add-zero code) (append-nil (valueLine code v))
-values-more code (suc i) (v ∷ vs) h =
-    ap (λ (l : List ℕ). valueLine code v ++ l) (values-more (suc code) i vs (le-of-suc-le-suc h))
-    ∙ rw (next-code code i) (sym (append-assoc (valueLine code v) (valueLines (suc code) (take i vs)) _))
+module _ {A : Type 0} (other : A) (text : ℕ → A → List ℕ) where
+  lines-more : (code i : ℕ) (xs : List A) → i < length xs
+      → linesFrom text code (take (suc i) xs) ≡ linesFrom text code (take i xs) ++ text (code + i) (getD xs i other)
+  unfolding linesFrom
+  lines-more code i [] h = absurd (not-suc-le-zero h)
+  lines-more code zero (x ∷ xs) h = rw (add-zero code) (append-nil (text code x))
+  lines-more code (suc i) (x ∷ xs) h =
+      ap (λ (l : List ℕ). text code x ++ l) (lines-more (suc code) i xs (le-of-suc-le-suc h))
+      ∙ rw (next-code code i) (sym (append-assoc (text code x) (linesFrom text (suc code) (take i xs)) _))
+
+  -- The same, as a loop counts.
+  pub lines-turn : (i : ℕ) (xs : List A) → i < length xs
+      → linesFrom text firstCode (take i xs) ++ text (firstCode + i) (getD xs i other) ≡ linesFrom text firstCode (take (i + 1) xs)
+  lines-turn i xs h = rw (add-one i) (sym (lines-more firstCode i xs h))
+
+  -- So far they are no longer than all.
+  pub lines-within : (code i : ℕ) (xs : List A) → length (linesFrom text code (take i xs)) ≤ length (linesFrom text code xs)
+  unfolding linesFrom
+  lines-within code zero xs = omega arith
+  lines-within code (suc i) [] = omega arith
+  lines-within code (suc i) (x ∷ xs) = let rest = lines-within (suc code) i xs in simp length-append (omega (arith, rest))
 
 changes-more : (code i : ℕ) (os ns : List Bool) → i < length os → i < length ns
     → changesFrom code (take (suc i) os) (take (suc i) ns)
@@ -49,15 +116,11 @@ changes-more code (suc i) (o ∷ os) (n ∷ ns) h k =
 
 -- Three bytes for each wire.
 pub values-length : (code : ℕ) (vs : List Bool) → length (valueLines code vs) ≡ 3 * length vs
-unfolding valueLines
+unfolding linesFrom
 values-length code [] = refl
 values-length code (v ∷ vs) = omega (arith, values-length (suc code) vs)
 
 -- The same, as a loop counts.
-pub values-turn : (i : ℕ) (vs : List Bool) → i < length vs
-    → valueLines firstCode (take i vs) ++ valueLine (firstCode + i) (getD vs i false) ≡ valueLines firstCode (take (i + 1) vs)
-values-turn i vs h = rw (add-one i) (sym (values-more firstCode i vs h))
-
 pub changes-turn : (i : ℕ) (os ns : List Bool) → i < length os → i < length ns
     → changesFrom firstCode (take i os) (take i ns) ++ changeLine (firstCode + i) (getD os i false) (getD ns i false)
     ≡ changesFrom firstCode (take (i + 1) os) (take (i + 1) ns)

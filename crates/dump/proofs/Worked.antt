@@ -1,13 +1,13 @@
--- Request K2 on Session S: the definition gives the dump that is wanted, byte for byte. By computing it.
+-- Request K2, worked: a time at which nothing changes is not written, and the last time below 2 ^ 64 is. By computing it.
 -- Assumes nothing.
 use mathlib.Core.List.{[], _∷_}
 use mathlib.Core.Path.{refl}
 use Rattle.common.specs.Case.{AllAsWanted}
 use Rattle.common.specs.Decimal.{decimal, decimalUpTo}
-use Rattle.dump.specs.Wires.{wireNames}
-use Rattle.dump.specs.Dumps.{declarations, openingText, valueLines, closingText, headText, changesFrom, momentText, laterText, dumpOf}
-use Rattle.dump.specs.Cases.{valuesIn, at, linesOf, sessionS, sessionLines, session}
+use Rattle.dump.specs.Dumps.{changesFrom, momentText, laterText}
+use Rattle.dump.specs.SessionS.{linesOf}
+use Rattle.dump.specs.Cases.{valuesIn, at, lastTime}
 
-pub session-as-wanted : AllAsWanted (session ∷ [])
-unfolding decimal decimalUpTo wireNames declarations openingText valueLines closingText headText changesFrom momentText laterText dumpOf valuesIn at linesOf sessionS sessionLines session
-session-as-wanted = refl
+pub last-time-as-wanted : AllAsWanted (lastTime ∷ [])
+unfolding decimal decimalUpTo changesFrom momentText laterText linesOf valuesIn at lastTime
+last-time-as-wanted = refl

@@ -1,11 +1,11 @@
 -- Request K2: the value change dump, from a list of times and values to all its bytes.
 -- Assumes nothing.
-use Prim.Native.Nat.{ℕ, suc, _+_, _^_, _<_}
+use Prim.Native.Nat.{ℕ, suc, _+_, _*_, _^_, _<_}
 use mathlib.Core.Bool.{Bool, true, false, cond}
 use mathlib.Core.List.{List, [], _∷_, _++_}
 use mathlib.Core.Path.{_≡_}
 use lib.ListN.{length}
-use Rattle.common.specs.Ascii.{ascii}
+use Rattle.common.specs.Ascii.{ascii, lf}
 use Rattle.common.specs.Bits.{bit}
 use Rattle.common.specs.Decimal.{decimal, digit0}
 use Rattle.dump.specs.Wires.{wireNames, wires, firstCode}
@@ -30,37 +30,43 @@ Rising (m ∷ ms) = (m .time ≡ 0) × (length (m .values) ≡ wires) × RisesFr
 -- ---- Lines
 
 -- Lines end in LF.
-abbrev pub lf : ℕ
-lf = 10
-
 abbrev pub line : List ℕ → List ℕ
 line text = text ++ lf ∷ []
 
--- A wire is declared by its code and its name.
-unfoldable pub declarations : ℕ → List (List ℕ) → List ℕ
-declarations code [] = []
-declarations code (name ∷ names) =
-    line (ascii "$var wire 1 " ++ code ∷ (ascii " " ++ name ++ ascii " $end")) ++ declarations (suc code) names
+-- For each wire what is written of it, in order: by its code, which is the next for each next wire, and what it has there.
+unfoldable pub linesFrom : {A : Type 0} → (ℕ → A → List ℕ) → ℕ → List A → List ℕ
+linesFrom text code [] = []
+linesFrom text code (x ∷ xs) = text code x ++ linesFrom text (suc code) xs
 
--- What every dump begins with, up to the first value.
-unfoldable pub openingText : List ℕ
-openingText =
-    line (ascii "$timescale 1 ms $end") ++
-    line (ascii "$scope module rig $end") ++
-    declarations firstCode wireNames ++
+-- A wire is declared by its code and its name.
+unfoldable pub declaration : ℕ → List ℕ → List ℕ
+declaration code name = ascii "$var wire 1 " ++ code ∷ ascii " " ++ name ++ line (ascii " $end")
+
+abbrev pub declarations : ℕ → List (List ℕ) → List ℕ
+declarations code names = linesFrom declaration code names
+
+-- The lines before the declarations, and those behind them, up to the first value.
+abbrev pub linesBefore : List ℕ
+linesBefore = line (ascii "$timescale 1 ms $end") ++ line (ascii "$scope module rig $end")
+
+abbrev pub linesBehind : List ℕ
+linesBehind =
     line (ascii "$upscope $end") ++
     line (ascii "$enddefinitions $end") ++
     line (ascii "#0") ++
     line (ascii "$dumpvars")
+
+-- What every dump begins with, up to the first value.
+unfoldable pub openingText : List ℕ
+openingText = linesBefore ++ declarations firstCode wireNames ++ linesBehind
 
 -- A wire's value: the value, and the wire's code.
 abbrev pub valueLine : ℕ → Bool → List ℕ
 valueLine code value = line ((digit0 + bit value) ∷ code ∷ [])
 
 -- The values of all wires, in order.
-unfoldable pub valueLines : ℕ → List Bool → List ℕ
-valueLines code [] = []
-valueLines code (value ∷ values) = valueLine code value ++ valueLines (suc code) values
+abbrev pub valueLines : ℕ → List Bool → List ℕ
+valueLines code values = linesFrom valueLine code values
 
 -- What follows the first values.
 unfoldable pub closingText : List ℕ
@@ -69,6 +75,16 @@ closingText = line (ascii "$end")
 -- The head of a dump: the definitions, and the values at time 0.
 unfoldable pub headText : List Bool → List ℕ
 headText values = openingText ++ valueLines firstCode values ++ closingText
+
+-- The bytes of what every dump begins with, of what follows the first values, and of the whole head.
+abbrev pub openingLength : ℕ
+openingLength = 995
+
+abbrev pub closingLength : ℕ
+closingLength = 5
+
+abbrev pub headLength : ℕ
+headLength = openingLength + 3 * wires + closingLength
 
 -- ---- Changes
 
@@ -95,6 +111,13 @@ hash = 35
 
 abbrev pub timeLine : ℕ → List ℕ
 timeLine time = hash ∷ line (decimal time)
+
+-- It has at most 22 bytes, as a time has at most 20 digits; and so a moment has at most 100.
+abbrev pub timeRoom : ℕ
+timeRoom = 22
+
+abbrev pub momentRoom : ℕ
+momentRoom = timeRoom + 3 * wires
 
 -- A time at which something changes, and the changes; a time at which nothing changes is not written.
 abbrev pub timed : ℕ → List ℕ → List ℕ

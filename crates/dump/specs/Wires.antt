@@ -1,16 +1,12 @@
 -- Request K2: the wires of a dump. The five orders as in the output row, the three lamps, and the 18 voted values as in the sample.
 -- Assumes nothing.
 use Prim.Native.Nat.{ℕ}
-use mathlib.Core.List.{List, _∷_}
-use Rattle.common.specs.Ascii.{ascii}
-use Rattle.common.specs.Names.{sensorNames}
+use mathlib.Core.List.{List, _++_}
+use Rattle.names.specs.Words.{orderNames, lampNames, sensorNames}
 
 -- The names of the wires, in their order.
 unfoldable pub wireNames : List (List ℕ)
-wireNames =
-    ascii "general_EV" ∷ ascii "close_EV" ∷ ascii "open_EV" ∷ ascii "retract_EV" ∷ ascii "extend_EV" ∷
-    ascii "green" ∷ ascii "orange" ∷ ascii "red" ∷
-    sensorNames
+wireNames = orderNames ++ lampNames ++ sensorNames
 
 -- There are 26.
 abbrev pub wires : ℕ

@@ -3,22 +3,31 @@
 // buffers, so that a long lesson needs no more memory than a short one: specs/Writes.antt says what each call gives, and
 // proofs/Law.antt that what is written in all is the dump of the whole list.
 ghost use mathlib.Core.Path.{_≡_};
-ghost use Prim.Native.Nat.{_+_, _≤_, _<_};
-ghost use lib.ListN.{length, getD, take};
-ghost use Rattle.texts.specs.Puts.{Put};
-ghost use Rattle.dump.specs.Wires.{firstCode};
+ghost use Prim.Native.Nat.{_+_, _*_, _≤_, _<_};
+ghost use lib.ListN.{length, take};
+ghost use Rattle.texts.specs.Puts.{Put, putOf};
+ghost use Rattle.names.specs.Words.{entry};
+ghost use Rattle.dump.specs.Wires.{wireNames, wires, firstCode};
 ghost use Rattle.dump.specs.Dumps.{
+  declaration,
+  declarations,
   openingText,
   closingText,
+  openingLength,
+  headLength,
   valueLine,
   valueLines,
   headText,
   changeLine,
   changesFrom,
   timeLine,
+  timeRoom,
+  momentRoom,
   momentText,
 };
 ghost use Rattle.dump.specs.Writes.{refused, placed, startOf, nextOf};
+use names::LAMPS;
+use names::ORDERS;
 
 // There are so many wires.
 pub const WIRES: usize = 26;
@@ -26,51 +35,20 @@ pub const WIRES: usize = 26;
 // The code of the first wire; each next wire has the next.
 pub const FIRST: u8 = b'!';
 
-// What every dump begins with, up to the first value, and how many bytes that is.
+// How many bytes every dump begins with, how many follow the first values, and how many that makes with these.
 pub const OPENING_LENGTH: usize = 995;
 
-const OPENING: [u8; 995] = *b"$timescale 1 ms $end\n\
-$scope module rig $end\n\
-$var wire 1 ! general_EV $end\n\
-$var wire 1 \" close_EV $end\n\
-$var wire 1 # open_EV $end\n\
-$var wire 1 $ retract_EV $end\n\
-$var wire 1 % extend_EV $end\n\
-$var wire 1 & green $end\n\
-$var wire 1 ' orange $end\n\
-$var wire 1 ( red $end\n\
-$var wire 1 ) handle $end\n\
-$var wire 1 * analogical_switch $end\n\
-$var wire 1 + gear_extended_front $end\n\
-$var wire 1 , gear_extended_left $end\n\
-$var wire 1 - gear_extended_right $end\n\
-$var wire 1 . gear_retracted_front $end\n\
-$var wire 1 / gear_retracted_left $end\n\
-$var wire 1 0 gear_retracted_right $end\n\
-$var wire 1 1 gear_shock_absorber_front $end\n\
-$var wire 1 2 gear_shock_absorber_left $end\n\
-$var wire 1 3 gear_shock_absorber_right $end\n\
-$var wire 1 4 door_closed_front $end\n\
-$var wire 1 5 door_closed_left $end\n\
-$var wire 1 6 door_closed_right $end\n\
-$var wire 1 7 door_open_front $end\n\
-$var wire 1 8 door_open_left $end\n\
-$var wire 1 9 door_open_right $end\n\
-$var wire 1 : circuit_pressurized $end\n\
-$upscope $end\n\
-$enddefinitions $end\n\
-#0\n\
-$dumpvars\n";
-
-// What follows the first values, and how many bytes that is.
 pub const CLOSING_LENGTH: usize = 5;
 
-const CLOSING: [u8; 5] = *b"$end\n";
+pub const HEAD_LENGTH: usize = OPENING_LENGTH + 3 * WIRES + CLOSING_LENGTH;
+
+// A moment has at most so many: 22 of its time, and three of each wire.
+const MOMENT_ROOM: usize = 22 + 3 * WIRES;
 
 // A dump under way: the time and the values of the last moment.
 pub struct Dump {
     pub time: u64,
-    pub values: [bool; 26],
+    pub values: [bool; WIRES],
 }
 
 // What the writer answers: 0 or its refusal, the dump after it, and how many bytes were written.
@@ -80,105 +58,61 @@ pub struct Wrote {
     pub written: usize,
 }
 
-// A byte of what every dump begins with; 0 past its end.
-pub fn opening_byte(at: usize) -> u8
-    ensures { λ r. ⌜ r ≡ getD openingText at 0 ⌝ }
-{
-    if at < OPENING_LENGTH {
-        return OPENING[at];
+impl Dump {
+    // A dump at its start: writes its head, with the values at time 0.
+    pub fn start(values: [bool; WIRES], out: &mut [u8]) -> Wrote
+        ensures { λ r. ⌜ (r, now (out .exit)) ≡ startOf values (now (out .entry)) ⌝ }
+    {
+        let dump = Dump { time: 0, values };
+        let mut text = [0u8; HEAD_LENGTH];
+        let end = put_head(&mut text, values);
+        hand_over(dump, dump, &text[..end], out)
     }
-    0
-}
 
-// A byte of what follows the first values; 0 past its end.
-pub fn closing_byte(at: usize) -> u8
-    ensures { λ r. ⌜ r ≡ getD closingText at 0 ⌝ }
-{
-    if at < CLOSING_LENGTH {
-        return CLOSING[at];
+    // So many ms later, with these values: writes what changes.
+    pub fn next(self, elapsed: u64, values: [bool; WIRES], out: &mut [u8]) -> Wrote
+        ensures { λ r. ⌜ (r, now (out .exit)) ≡ nextOf self elapsed values (now (out .entry)) ⌝ }
+    {
+        if elapsed == 0 {
+            return self.refused(9);
+        }
+        if u64::MAX - self.time < elapsed {
+            return self.refused(9);
+        }
+        let time = self.time + elapsed;
+        let after = Dump { time, values };
+        let olds = self.values;
+        let mut text = [0u8; MOMENT_ROOM];
+        let end = put_moment(&mut text, time, olds, values);
+        hand_over(self, after, &text[..end], out)
     }
-    0
-}
 
-// Puts the line of a wire's value.
-fn put_value(line: &mut [u8], at: usize, code: u8, value: bool) -> usize
-    requires { ⌜ at + 3 ≤ length (now line) ⌝ }
-    ensures { λ r. ⌜ Put (now (line .entry)) at (valueLine code value) (now (line .exit)) r ⌝ }
-{
-    let piece = [texts::on_off(value), code, b'\n'];
-    texts::put(line, at, &piece)
-}
-
-// Puts the values of all wires.
-fn put_values(line: &mut [u8], at: usize, values: [bool; 26]) -> usize
-    requires { ⌜ at + 78 ≤ length (now line) ⌝ }
-    ensures { λ r. ⌜ Put (now (line .entry)) at (valueLines firstCode values) (now (line .exit)) r ⌝ }
-{
-    let mut next = at;
-    let mut i = 0;
-    while i < WIRES {
-        next = put_value(line, next, FIRST + (i as u8), values[i]);
-        i += 1;
+    // A refusal leaves the dump as it was.
+    fn refused(self, refusal: u8) -> Wrote
+        ensures { λ r. ⌜ r ≡ refused refusal self ⌝ }
+    {
+        Wrote {
+            refusal,
+            dump: self,
+            written: 0,
+        }
     }
-    next
 }
 
-// Puts the head of a dump.
-fn put_head(line: &mut [u8], values: [bool; 26]) -> usize
-    requires { ⌜ 1078 ≤ length (now line) ⌝ }
-    ensures { λ r. ⌜ (r ≡ 1078) × Put (now (line .entry)) 0 (headText values) (now (line .exit)) r ⌝ }
+// What every dump begins with, up to the first value.
+pub fn opening() -> [u8; OPENING_LENGTH]
+    ensures { λ r. ⌜ r ≡ openingText ⌝ }
 {
-    let opened = texts::put(line, 0, &OPENING);
-    let valued = put_values(line, opened, values);
-    texts::put(line, valued, &CLOSING)
+    let mut text = [0u8; OPENING_LENGTH];
+    put_opening(&mut text);
+    text
 }
 
-// Puts the line of a wire that changes; one that does not change has none.
-fn put_change(line: &mut [u8], at: usize, code: u8, old: bool, new: bool) -> usize
-    requires { ⌜ at + 3 ≤ length (now line) ⌝ }
-    ensures { λ r. ⌜ Put (now (line .entry)) at (changeLine code old new) (now (line .exit)) r ⌝ }
+// What follows the first values.
+pub fn closing() -> [u8; CLOSING_LENGTH]
+    ensures { λ r. ⌜ r ≡ closingText ⌝ }
 {
-    if old == new {
-        return at;
-    }
-    put_value(line, at, code, new)
-}
-
-// Puts the wires that change.
-fn put_changes(line: &mut [u8], at: usize, olds: [bool; 26], news: [bool; 26]) -> usize
-    requires { ⌜ at + 78 ≤ length (now line) ⌝ }
-    ensures { λ r. ⌜ Put (now (line .entry)) at (changesFrom firstCode olds news) (now (line .exit)) r ⌝ }
-{
-    let mut next = at;
-    let mut i = 0;
-    while i < WIRES {
-        next = put_change(line, next, FIRST + (i as u8), olds[i], news[i]);
-        i += 1;
-    }
-    next
-}
-
-// Puts the line of a time.
-fn put_time(line: &mut [u8], time: u64) -> usize
-    requires { ⌜ 22 ≤ length (now line) ⌝ }
-    ensures { λ r. ⌜ (r ≤ 22) × Put (now (line .entry)) 0 (timeLine time) (now (line .exit)) r ⌝ }
-{
-    let marked = texts::put(line, 0, b"#");
-    let timed = texts::put_number(line, marked, time);
-    texts::put(line, timed, b"\n")
-}
-
-// Puts a moment: its time and what changes at it, or nothing where nothing changes.
-fn put_moment(line: &mut [u8], time: u64, olds: [bool; 26], news: [bool; 26]) -> usize
-    requires { ⌜ 100 ≤ length (now line) ⌝ }
-    ensures { λ r. ⌜ (r ≤ 100) × (take r (now (line .exit)) ≡ momentText olds (record { time = time; values = news })) ⌝ }
-{
-    let timed = put_time(line, time);
-    let changed = put_changes(line, timed, olds, news);
-    if changed == timed {
-        return 0;
-    }
-    changed
+    *b"$end\n"
 }
 
 // Hands a text to the lent buffer where there is room for it.
@@ -195,43 +129,144 @@ fn hand_over(before: Dump, after: Dump, text: &[u8], out: &mut [u8]) -> Wrote
     }
 }
 
-impl Dump {
-    // A refusal leaves the dump as it was.
-    fn refused(self, refusal: u8) -> Wrote
-        ensures { λ r. ⌜ r ≡ refused refusal self ⌝ }
-    {
-        Wrote {
-            refusal,
-            dump: self,
-            written: 0,
-        }
-    }
+// Puts the head of a dump.
+fn put_head(line: &mut [u8], values: [bool; WIRES]) -> usize
+    requires { ⌜ headLength ≤ length (now line) ⌝ }
+    ensures { λ r. ⌜ (r ≡ headLength) × Put (now (line .entry)) 0 (headText values) (now (line .exit)) r ⌝ }
+{
+    let opened = put_opening(line);
+    let valued = put_values(line, opened, values);
+    texts::put(line, valued, &closing())
+}
 
-    // A dump at its start: writes its head, with the values at time 0.
-    pub fn start(values: [bool; 26], out: &mut [u8]) -> Wrote
-        ensures { λ r. ⌜ (r, now (out .exit)) ≡ startOf values (now (out .entry)) ⌝ }
-    {
-        let dump = Dump { time: 0, values };
-        let mut text = [0u8; 1078];
-        let end = put_head(&mut text, values);
-        hand_over(dump, dump, &text[..end], out)
-    }
+// Puts what every dump begins with.
+fn put_opening(line: &mut [u8]) -> usize
+    requires { ⌜ openingLength ≤ length (now line) ⌝ }
+    ensures { λ r. ⌜ Put (now (line .entry)) 0 openingText (now (line .exit)) r ⌝ }
+{
+    let begun = texts::put(
+        line,
+        0,
+        b"$timescale 1 ms $end\n\
+$scope module rig $end\n",
+    );
+    let declared = put_declarations(line, begun);
+    texts::put(
+        line,
+        declared,
+        b"$upscope $end\n\
+$enddefinitions $end\n\
+#0\n\
+$dumpvars\n",
+    )
+}
 
-    // So many ms later, with these values: writes what changes.
-    pub fn next(self, elapsed: u64, values: [bool; 26], out: &mut [u8]) -> Wrote
-        ensures { λ r. ⌜ (r, now (out .exit)) ≡ nextOf self elapsed values (now (out .entry)) ⌝ }
-    {
-        if elapsed == 0 {
-            return self.refused(9);
-        }
-        if u64::MAX - self.time < elapsed {
-            return self.refused(9);
-        }
-        let time = self.time + elapsed;
-        let after = Dump { time, values };
-        let olds = self.values;
-        let mut text = [0u8; 100];
-        let end = put_moment(&mut text, time, olds, values);
-        hand_over(self, after, &text[..end], out)
+// Puts the declarations of all wires.
+fn put_declarations(line: &mut [u8], at: usize) -> usize
+    requires { ⌜ at + length (declarations firstCode wireNames) ≤ length (now line) ⌝ }
+    ensures { λ r. ⌜ Put (now (line .entry)) at (declarations firstCode wireNames) (now (line .exit)) r ⌝ }
+{
+    let mut next = at;
+    let mut i = 0;
+    while i < WIRES {
+        next = put_declaration(line, next, i);
+        i += 1;
     }
+    next
+}
+
+// Puts the declaration of a wire.
+fn put_declaration(line: &mut [u8], at: usize, wire: usize) -> usize
+    requires { ⌜ (wire < wires) × (at + length (declaration (firstCode + wire) (entry wireNames wire)) ≤ length (now line)) ⌝ }
+    ensures { λ r. ⌜ Put (now (line .entry)) at (declaration (firstCode + wire) (entry wireNames wire)) (now (line .exit)) r ⌝ }
+{
+    let begun = texts::put(line, at, b"$var wire 1 ");
+    let code = [FIRST + (wire as u8), b' '];
+    let coded = texts::put(line, begun, &code);
+    let named = put_name(line, coded, wire);
+    texts::put(line, named, b" $end\n")
+}
+
+// Puts the name of a wire.
+fn put_name(line: &mut [u8], at: usize, wire: usize) -> usize
+    ensures { λ r. ⌜ (r, now (line .exit)) ≡ putOf (now (line .entry)) at (entry wireNames wire) ⌝ }
+{
+    if wire < ORDERS {
+        return names::put_order(line, at, wire);
+    }
+    if wire < ORDERS + LAMPS {
+        return names::put_lamp(line, at, wire - ORDERS);
+    }
+    names::put_sensor(line, at, wire - (ORDERS + LAMPS))
+}
+
+// Puts the values of all wires.
+fn put_values(line: &mut [u8], at: usize, values: [bool; WIRES]) -> usize
+    requires { ⌜ at + 3 * wires ≤ length (now line) ⌝ }
+    ensures { λ r. ⌜ Put (now (line .entry)) at (valueLines firstCode values) (now (line .exit)) r ⌝ }
+{
+    let mut next = at;
+    let mut i = 0;
+    while i < WIRES {
+        next = put_value(line, next, FIRST + (i as u8), values[i]);
+        i += 1;
+    }
+    next
+}
+
+// Puts the line of a wire's value.
+fn put_value(line: &mut [u8], at: usize, code: u8, value: bool) -> usize
+    requires { ⌜ at + 3 ≤ length (now line) ⌝ }
+    ensures { λ r. ⌜ Put (now (line .entry)) at (valueLine code value) (now (line .exit)) r ⌝ }
+{
+    let piece = [texts::on_off(value), code, b'\n'];
+    texts::put(line, at, &piece)
+}
+
+// Puts a moment: its time and what changes at it, or nothing where nothing changes.
+fn put_moment(line: &mut [u8], time: u64, olds: [bool; WIRES], news: [bool; WIRES]) -> usize
+    requires { ⌜ momentRoom ≤ length (now line) ⌝ }
+    ensures { λ r. ⌜ (r ≤ momentRoom) × (take r (now (line .exit)) ≡ momentText olds (record { time = time; values = news })) ⌝ }
+{
+    let timed = put_time(line, time);
+    let changed = put_changes(line, timed, olds, news);
+    if changed == timed {
+        return 0;
+    }
+    changed
+}
+
+// Puts the line of a time.
+fn put_time(line: &mut [u8], time: u64) -> usize
+    requires { ⌜ timeRoom ≤ length (now line) ⌝ }
+    ensures { λ r. ⌜ (r ≤ timeRoom) × Put (now (line .entry)) 0 (timeLine time) (now (line .exit)) r ⌝ }
+{
+    let marked = texts::put(line, 0, b"#");
+    let timed = texts::put_number(line, marked, time);
+    texts::put(line, timed, b"\n")
+}
+
+// Puts the wires that change.
+fn put_changes(line: &mut [u8], at: usize, olds: [bool; WIRES], news: [bool; WIRES]) -> usize
+    requires { ⌜ at + 3 * wires ≤ length (now line) ⌝ }
+    ensures { λ r. ⌜ Put (now (line .entry)) at (changesFrom firstCode olds news) (now (line .exit)) r ⌝ }
+{
+    let mut next = at;
+    let mut i = 0;
+    while i < WIRES {
+        next = put_change(line, next, FIRST + (i as u8), olds[i], news[i]);
+        i += 1;
+    }
+    next
+}
+
+// Puts the line of a wire that changes; one that does not change has none.
+fn put_change(line: &mut [u8], at: usize, code: u8, old: bool, new: bool) -> usize
+    requires { ⌜ at + 3 ≤ length (now line) ⌝ }
+    ensures { λ r. ⌜ Put (now (line .entry)) at (changeLine code old new) (now (line .exit)) r ⌝ }
+{
+    if old == new {
+        return at;
+    }
+    put_value(line, at, code, new)
 }

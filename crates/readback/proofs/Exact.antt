@@ -12,6 +12,7 @@ use lib.Dec.{eqb, leb, ltb}
 use lib.ListN.{length, take, drop, getD, set, length-set, drop-of-length-le, replicate, length-replicate}
 use lib.Seq.{append-snoc, drop-cons, drop-set-lt, getD-set-same, getD-take, take-set-le, take-take}
 use Rattle.common.specs.Answers.{Answer, gives, refuses}
+use Rattle.common.specs.Ascii.{lf}
 use Rattle.common.specs.Bits.{bit}
 use Rattle.common.specs.Decimal.{digit0, decimal}
 use Rattle.dump.specs.Wires.{wires, firstCode}
@@ -19,8 +20,8 @@ use Rattle.dump.specs.Dumps.{
   Moment,
   RisesFrom,
   Rising,
-  lf,
   line,
+  linesFrom,
   openingText,
   valueLines,
   closingText,
@@ -195,7 +196,7 @@ module _ (time wire : ℕ) (value : Bool) (values : List Bool) (m : Moment) (tol
 -- Behind the last wire no first value is left, and no change.
 all-told : (next : ℕ) (values : List Bool) (m : Moment) (ms : List Moment) → length values ≤ next → length (m .values) ≤ next
     → closingText ++ lineText next values m ms ≡ firstText next m ms
-unfolding changesFrom valueLines
+unfolding changesFrom linesFrom
 all-told next values m ms h k = rw (drop-of-length-le values h, drop-of-length-le (m .values) k)
 
 -- So behind a complete moment comes `#`, and then what is left of the next one.

@@ -7,10 +7,12 @@ use native.Mathlib.Omega.{arith}
 use mathlib.Core.Bool.{Bool, false}
 use mathlib.Core.List.{List, [], _∷_, _++_, map, append-nil}
 use mathlib.Core.Path.{_≡_, refl, sym, ap}
-use lib.ListN.{length, getD, take}
-use Rattle.common.specs.Ascii.{comma, joinedByCommas}
+use lib.ListN.{length, getD, take, length-append}
+use Rattle.common.specs.Ascii.{ascii, comma, crlf, joinedByCommas}
 use Rattle.common.specs.Decimal.{decimal}
-use Rattle.readback.specs.Sheets.{crlf, valueField, sheetRow, laterFields}
+use Rattle.names.specs.Words.{orderNames, lampNames, sensorNames}
+use Rattle.dump.specs.Wires.{wireNames}
+use Rattle.readback.specs.Sheets.{otherNames, sheetHeader, valueField, sheetRow, laterFields}
 
 -- Behind the first field, each field has the comma before it.
 joined : (f : List ℕ) (vs : List Bool) → joinedByCommas (f ∷ map valueField vs) ≡ f ++ laterFields vs
@@ -22,6 +24,15 @@ joined f (v ∷ vs) = ap (λ (l : List ℕ). f ++ comma ∷ l) (joined (valueFie
 pub row-parts : (time : ℕ) (vs : List Bool) → (decimal time ++ laterFields vs) ++ crlf ≡ sheetRow time vs
 unfolding sheetRow
 row-parts time vs = ap (λ (l : List ℕ). l ++ crlf) (sym (joined (decimal time) vs))
+
+-- The header is `time`, the names of the orders, those behind them, and its end.
+pub header-parts : ascii "time," ++ joinedByCommas orderNames ++ otherNames ++ crlf ≡ sheetHeader
+unfolding joinedByCommas orderNames lampNames sensorNames wireNames otherNames sheetHeader
+header-parts = refl
+
+pub others-length : length otherNames ≡ 2 + length (joinedByCommas lampNames) + length (joinedByCommas sensorNames)
+unfolding otherNames
+others-length = simp length-append (omega arith)
 
 -- Two bytes for each wire.
 pub fields-length : (vs : List Bool) → length (laterFields vs) ≡ 2 * length vs

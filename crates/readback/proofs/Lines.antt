@@ -11,7 +11,7 @@ use lib.ListN.{length, take, drop, getD}
 use lib.Seq.{drop-cons}
 use Rattle.common.specs.Decimal.{digit0, decimal}
 use Rattle.common.proofs.Decimals.{decimal-one, decimal-more}
-use Rattle.dump.specs.Dumps.{Moment, RisesFrom, valueLine, valueLines, differ, changeLine, changesFrom}
+use Rattle.dump.specs.Dumps.{Moment, RisesFrom, linesFrom, valueLine, valueLines, differ, changeLine, changesFrom}
 use Rattle.readback.specs.Bytes.{withDigit}
 use Rattle.readback.specs.Values.{sameValues}
 
@@ -66,7 +66,7 @@ changes-some code (u ∷ us) (v ∷ vs) h e =
 -- From a wire on: its line, and those of the others.
 pub values-at : (code i : ℕ) (values : List Bool) → i < length values
     → valueLines (code + i) (drop i values) ≡ valueLine (code + i) (getD values i false) ++ valueLines (code + suc i) (drop (suc i) values)
-unfolding valueLines
+unfolding linesFrom
 values-at code i values h = rw (drop-cons values i false h, add-suc code i)
 
 -- ---- Changed wires, from one on

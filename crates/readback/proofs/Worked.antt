@@ -1,16 +1,57 @@
--- Request K2 on Session S: the rule gives the sheet that is wanted, byte for byte. By computing it.
+-- Request K2 on Session S, bytes to bytes: its dump is read as its moments, and the sheet of it is the one that is wanted.
 -- Assumes nothing.
-use mathlib.Core.List.{[], _∷_}
-use mathlib.Core.Path.{refl}
+use mathlib.Core.List.{_++_}
+use mathlib.Core.Path.{_≡_, refl, sym, ap, _∙_}
+use native.Mathlib.Omega.{arith}
+use Rattle.common.specs.Answers.{gives}
 use Rattle.common.specs.Ascii.{joinedByCommas}
-use Rattle.common.specs.Case.{AllAsWanted}
 use Rattle.common.specs.Decimal.{decimal, decimalUpTo}
+use Rattle.names.specs.Words.{orderNames, lampNames, sensorNames}
 use Rattle.dump.specs.Wires.{wireNames}
-use Rattle.dump.specs.Cases.{valuesIn, at, sessionS}
+use Rattle.dump.specs.Dumps.{
+  Rising,
+  linesFrom,
+  declaration,
+  openingText,
+  closingText,
+  headText,
+  changesFrom,
+  momentText,
+  laterText,
+  dumpOf,
+}
+use Rattle.dump.specs.SessionS.{linesOf, sessionLines, sessionDump}
+use Rattle.dump.specs.Cases.{valuesIn, at}
+use Rattle.readback.specs.Reads.{readOf}
 use Rattle.readback.specs.Values.{sameValues, shownAfter, shown}
-use Rattle.readback.specs.Sheets.{sheetHeader, sheetRow}
-use Rattle.readback.specs.Cases.{rowsOf, endedRows, sessionRows, sessionSheet}
+use Rattle.readback.specs.Sheets.{sheetHeader, sheetRow, sheetRows, sheetBy, sheetOf}
+use Rattle.readback.specs.Cases.{sessionMoments, endedRows, sessionRows}
+use Rattle.readback.proofs.Written.{written-is-read}
 
-pub sheet-as-wanted : AllAsWanted (sessionSheet ∷ [])
-unfolding joinedByCommas decimal decimalUpTo wireNames valuesIn at sessionS sameValues shownAfter shown sheetHeader sheetRow rowsOf endedRows sessionRows sessionSheet
-sheet-as-wanted = refl
+-- The times rise from 0, and there is a value for each wire.
+they-rise : Rising sessionMoments
+unfolding valuesIn at sessionMoments
+they-rise =
+    (refl, refl, (omega arith, omega arith, refl, (omega arith, omega arith, refl, (omega arith, omega arith, refl, (omega arith, omega arith, refl, (omega arith, omega arith, refl, (omega arith, omega arith, refl, tt)))))))
+
+-- Their dump is Session S's. By computing it.
+their-dump : dumpOf sessionMoments ≡ sessionDump
+unfolding decimal decimalUpTo linesFrom declaration orderNames lampNames sensorNames wireNames openingText closingText headText changesFrom momentText laterText dumpOf valuesIn at sessionMoments linesOf sessionLines sessionDump
+their-dump = refl
+
+-- Something changes at each.
+all-shown : shown sessionMoments ≡ sessionMoments
+unfolding sameValues shownAfter shown valuesIn at sessionMoments
+all-shown = refl
+
+pub session-read : readOf sessionDump ≡ gives sessionMoments
+session-read = ap readOf (sym their-dump) ∙ written-is-read sessionMoments they-rise ∙ ap gives all-shown
+
+-- By computing it.
+rows-as-wanted : sheetHeader ++ sheetRows sessionMoments ≡ endedRows sessionRows
+unfolding joinedByCommas decimal decimalUpTo orderNames lampNames sensorNames wireNames valuesIn at sessionMoments sheetHeader sheetRow sheetRows endedRows sessionRows
+rows-as-wanted = refl
+
+pub session-sheet : sheetOf sessionDump ≡ gives (endedRows sessionRows)
+unfolding sheetOf
+session-sheet = ap sheetBy session-read ∙ ap gives rows-as-wanted

@@ -8,22 +8,22 @@ use mathlib.Core.Bool.{Bool, true, false, cond, and-false, true≢false}
 use mathlib.Core.List.{List, [], _∷_, _++_, append-assoc}
 use mathlib.Core.Path.{_≡_, refl, sym, ap, _∙_}
 use borrow.Author.Tests.{lt-ltb, le-leb, lt-leb, eq-eqb, ne-eqb, ltb-true, ltb-false, leb-false}
-use lib.Dec.{eqb, ltb, leb, lit<}
+use lib.Dec.{eqb, ltb, leb}
 use lib.ListN.{length, drop, getD, set, replicate, length-append, length-replicate, drop-of-length-le}
 use lib.Seq.{drop-cons, append-snoc, set-at, getD-at}
 use Rattle.common.specs.Answers.{Answer, gives}
+use Rattle.common.specs.Ascii.{lf}
 use Rattle.common.specs.Bits.{bit}
 use Rattle.common.specs.Decimal.{digit0, decimal, decimalUpTo}
 use Rattle.common.proofs.Decimals.{tenth, one-digit, last-digit}
-use Rattle.dump.specs.Wires.{wireNames, wires, firstCode}
+use Rattle.dump.specs.Wires.{wires, firstCode}
 use Rattle.dump.specs.Dumps.{
   Moment,
   RisesFrom,
   Rising,
-  lf,
   line,
   hash,
-  declarations,
+  linesFrom,
   openingText,
   closingText,
   valueLine,
@@ -54,7 +54,7 @@ use Rattle.readback.specs.Bytes.{
 }
 use Rattle.readback.specs.Reads.{complete, begins, before, readFrom, readOf}
 use Rattle.readback.specs.Values.{valuesFrom, valuesAt, sameValues, shownAfter, shown}
-use Rattle.dump.proofs.Lines.{is-timed}
+use Rattle.dump.proofs.Lines.{opening-length, is-timed}
 use Rattle.readback.proofs.Lines.{
   not-other,
   same-equal,
@@ -109,17 +109,12 @@ module _ (time next : ℕ) (values : List Bool) where
       rw (lt-ltb at (length closingText) h, eq-eqb (getD closingText at 0) (getD closingText at 0) refl)
       (by-place (eqb (suc at) (length closingText)) Line (Closing (suc at)) time next values bytes)
 
--- There is something in front of the first value.
-opening-some : 0 < length openingText
-unfolding openingText declarations wireNames
-opening-some = lit< tt
-
 -- What every dump begins with leads to the first value.
 opening-read : (time next : ℕ) (values : List Bool) (rest : List ℕ)
     → readAt (Opening 0) time next values (openingText ++ rest) ≡ readAt FirstValue time next values rest
 opening-read time next values rest =
     text-read openingText (λ at. readAt (Opening at) time next values) (readAt FirstValue time next values)
-    (opening-forth time next values) (length openingText - 1) 0 rest (omega (arith, opening-some))
+    (opening-forth time next values) (length openingText - 1) 0 rest (omega (arith, opening-length))
 
 -- What follows the first values leads to the lines behind the head.
 closing-read : (time next : ℕ) (values : List Bool) (rest : List ℕ)
@@ -182,7 +177,7 @@ first-values : (olds news : List Bool) (code time wire : ℕ) (told : List Bool)
     → length olds ≡ length news
     → wire + length news ≡ wires
     → readAt (due wire) time wire (told ++ olds) (valueLines code news ++ rest) ≡ readAt (Closing 0) time wires (told ++ news) rest
-unfolding valueLines
+unfolding linesFrom
 first-values [] [] code time wire told rest h at long all = let last : wire ≡ wires = omega arith in rw last
 first-values [] (new ∷ news) code time wire told rest h at long all = absurd (omega arith)
 first-values (old ∷ olds) [] code time wire told rest h at long all = absurd (omega arith)

@@ -6,9 +6,10 @@ use mathlib.Core.Bool.{Bool, false, cond, _&&_, _||_}
 use mathlib.Core.List.{List}
 use lib.Dec.{eqb, leb, ltb}
 use lib.ListN.{length, getD, set, replicate}
+use Rattle.common.specs.Ascii.{lf}
 use Rattle.common.specs.Decimal.{digit0}
 use Rattle.dump.specs.Wires.{wires, firstCode}
-use Rattle.dump.specs.Dumps.{openingText, closingText, lf, hash, differ}
+use Rattle.dump.specs.Dumps.{openingText, closingText, hash, differ}
 use Rattle.readback.specs.declared.Place.{Place}
 use Rattle.readback.specs.declared.Place.the-variants.{Opening, FirstValue, FirstCode, FirstEnd, Closing, Line, Time, Code, End, Bad}
 use Rattle.readback.specs.declared.Reader.{Reader}

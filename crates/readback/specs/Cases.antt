@@ -1,19 +1,23 @@
--- Request K2 on Session S: the sheet that must be written of its dump, row by row.
+-- Request K2 on Session S: the moments that are read of its dump, and the sheet that must be written of it, row by row.
 -- Assumes nothing.
 use Prim.Native.Nat.{ℕ}
 use Prim.Native.String.{String}
 use mathlib.Core.List.{List, [], _∷_, _++_}
-use Rattle.common.specs.Ascii.{ascii}
-use Rattle.common.specs.Case.{Case}
+use Rattle.common.specs.Ascii.{ascii, crlf}
 use Rattle.dump.specs.Dumps.{Moment}
-use Rattle.dump.specs.Cases.{sessionS}
-use Rattle.readback.specs.Values.{shown}
-use Rattle.readback.specs.Sheets.{crlf, sheetHeader, sheetRow}
+use Rattle.dump.specs.Cases.{at}
 
--- The rows of the moments.
-unfoldable pub rowsOf : List Moment → List ℕ
-rowsOf [] = []
-rowsOf (m ∷ ms) = sheetRow (m .time) (m .values) ++ rowsOf ms
+-- The seven times at which something is written.
+unfoldable pub sessionMoments : List Moment
+sessionMoments =
+    at 0 "00000 100 10 111 000 000 111 000 0" ∷
+    at 150 "10000 100 00 111 000 000 111 000 0" ∷
+    at 350 "10100 100 00 111 000 000 111 000 0" ∷
+    at 400 "10000 110 00 111 000 000 000 111 0" ∷
+    at 450 "10010 110 00 111 000 000 000 111 0" ∷
+    at 550 "10000 010 10 000 000 000 000 111 0" ∷
+    at 650 "10001 010 10 000 000 000 000 111 0" ∷
+    []
 
 -- Rows, each with its CR and LF.
 unfoldable pub endedRows : List String → List ℕ
@@ -32,6 +36,3 @@ sessionRows =
     "550,1,0,0,0,0,0,1,0,1,0,0,0,0,0,0,0,0,0,0,0,0,0,1,1,1,0" ∷
     "650,1,0,0,0,1,0,1,0,1,0,0,0,0,0,0,0,0,0,0,0,0,0,1,1,1,0" ∷
     []
-
-unfoldable pub sessionSheet : Case
-sessionSheet = record { name = "The sheet of Session S"; gives = sheetHeader ++ rowsOf (shown sessionS); wanted = endedRows sessionRows }

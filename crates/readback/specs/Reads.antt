@@ -1,6 +1,6 @@
 -- Request K2: a dump taken back. What all its bytes come to, and the same by parts with the buffer that is lent.
 -- Assumes nothing.
-use Prim.Native.Nat.{ℕ, suc}
+use Prim.Native.Nat.{ℕ, suc, _+_}
 use mathlib.Core.Bool.{Bool, true, false, cond, _&&_}
 use mathlib.Core.List.{List, [], _∷_, map}
 use lib.Dec.{eqb}
@@ -8,12 +8,12 @@ use lib.ListN.{length}
 use Rattle.common.specs.Answers.{Answer, gives, refuses}
 use Rattle.common.specs.Bits.{bit}
 use Rattle.dump.specs.Wires.{wires}
-use Rattle.dump.specs.Dumps.{Moment, hash}
+use Rattle.dump.specs.Dumps.{Moment, openingText, hash}
 use Rattle.readback.specs.declared.Place.{Place}
 use Rattle.readback.specs.declared.Place.the-variants.{Opening, FirstValue, FirstCode, FirstEnd, Closing, Line, Time, Code, End, Bad}
 use Rattle.readback.specs.declared.Reader.{Reader}
 use Rattle.readback.specs.declared.Took.{Took}
-use Rattle.readback.specs.Bytes.{newReader, mayEnd, byteOf}
+use Rattle.readback.specs.Bytes.{newReader, moved, mayEnd, byteOf}
 
 -- ---- Where a moment is over
 
@@ -96,6 +96,17 @@ takenFrom start r used (b ∷ bytes) values =
     cond (isBad (byteOf r b .place)) (refused 9 start, values)
     (cond (begins r b) (givesMoment (r .time) (suc used) (byteOf r b), bits (r .values))
     (takenFrom start (byteOf r b) (suc used) bytes values))
+
+-- How many bytes of a part go on with a text.
+unfoldable pub sameFor : List ℕ → List ℕ → ℕ
+sameFor [] text = 0
+sameFor (b ∷ part) [] = 0
+sameFor (b ∷ part) (t ∷ text) = cond (eqb b t) (suc (sameFor part text)) 0
+
+-- The reader behind so many more bytes of what every dump begins with.
+unfoldable pub opened : Reader → ℕ → ℕ → Reader
+opened r at same =
+    cond (eqb same 0) r (moved r (cond (eqb (at + same) (length openingText)) FirstValue (Opening (at + same))))
 
 -- 8: the values' buffer is not 26 bytes. A refusal leaves the buffer as it was.
 unfoldable pub takeOf : Reader → List ℕ → List ℕ → Took × List ℕ

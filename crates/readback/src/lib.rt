@@ -3,8 +3,10 @@
 // of a whole dump come to and what each call gives. proofs/Written.antt says that what the writer writes is read back, and
 // proofs/Exact.antt that nothing else is. The module `sheets` writes the values as CSV.
 ghost use mathlib.Core.Path.{_≡_};
-ghost use Prim.Native.Nat.{_<_};
-ghost use lib.ListN.{length};
+ghost use Prim.Native.Nat.{_-_, _≤_, _<_};
+ghost use lib.ListN.{length, drop};
+ghost use Rattle.dump.specs.Wires.{wires};
+ghost use Rattle.dump.specs.Dumps.{openingText, openingLength};
 ghost use Rattle.readback.specs.Bytes.{
   newReader,
   moved,
@@ -33,10 +35,14 @@ ghost use Rattle.readback.specs.Reads.{
   goesOn,
   givesMoment,
   takenFrom,
+  sameFor,
+  opened,
   takeOf,
   finishOf,
 };
+use dump::CLOSING_LENGTH;
 use dump::FIRST;
+use dump::OPENING_LENGTH;
 use dump::WIRES;
 
 pub mod sheets;
@@ -68,7 +74,7 @@ pub struct Reader {
     pub place: Place,
     pub time: u64,
     pub next: usize,
-    pub values: [bool; 26],
+    pub values: [bool; WIRES],
 }
 
 // What taking in a part gives: 0 or a refusal, whether a moment is complete, its time, how much of the part is used, and the
@@ -81,61 +87,6 @@ pub struct Took {
     pub reader: Reader,
 }
 
-// A value, 0 or 1.
-fn is_value(b: u8) -> bool
-    ensures { λ r. ⌜ r ≡ isValue b ⌝ }
-{
-    (b == b'0') | (b == b'1')
-}
-
-// At the start of a line.
-fn is_line(place: Place) -> bool
-    ensures { λ r. ⌜ r ≡ isLine place ⌝ }
-{
-    match place {
-        Place::Opening(_) => false,
-        Place::FirstValue => false,
-        Place::FirstCode => false,
-        Place::FirstEnd => false,
-        Place::Closing(_) => false,
-        Place::Line => true,
-        Place::Time(_) => false,
-        Place::Code(_) => false,
-        Place::End => false,
-        Place::Bad => false,
-    }
-}
-
-// Refused for good.
-fn is_bad(place: Place) -> bool
-    ensures { λ r. ⌜ r ≡ isBad place ⌝ }
-{
-    match place {
-        Place::Opening(_) => false,
-        Place::FirstValue => false,
-        Place::FirstCode => false,
-        Place::FirstEnd => false,
-        Place::Closing(_) => false,
-        Place::Line => false,
-        Place::Time(_) => false,
-        Place::Code(_) => false,
-        Place::End => false,
-        Place::Bad => true,
-    }
-}
-
-// The values of a moment into the lent buffer, each 0 or 1.
-fn show(values: [bool; 26], out: &mut [u8])
-    requires { ⌜ length (now out) ≡ 26 ⌝ }
-    ensures { λ r. ⌜ now (out .exit) ≡ bits values ⌝ }
-{
-    let mut i = 0;
-    while i < WIRES {
-        out[i] = values[i] as u8;
-        i += 1;
-    }
-}
-
 impl Reader {
     // A reader before the first byte.
     pub fn new() -> Self
@@ -145,67 +96,113 @@ impl Reader {
             place: Place::Opening(0),
             time: 0,
             next: 0,
-            values: [false; 26],
+            values: [false; WIRES],
         }
     }
 
-    // The reader at another place.
-    fn moved(self, place: Place) -> Self
-        ensures { λ r. ⌜ r ≡ moved self place ⌝ }
+    // Takes in a part of a dump, up to the byte that begins the next moment or to its end. Where a moment is complete, its values
+    // go into the lent buffer of 26 bytes, each 0 or 1; the rest of the part is for the next call.
+    pub fn take(self, part: &[u8], values: &mut [u8]) -> Took
+        ensures { λ r. ⌜ (r, now (values .exit)) ≡ takeOf self (now (part .entry)) (now (values .entry)) ⌝ }
     {
-        let values = self.values;
-        Reader {
-            place,
-            time: self.time,
-            next: self.next,
-            values,
+        if values.len() != WIRES {
+            return self.refused(8);
         }
-    }
-
-    // A byte that no dump has there.
-    fn bad(self) -> Self
-        ensures { λ r. ⌜ r ≡ bad self ⌝ }
-    {
-        self.moved(Place::Bad)
-    }
-
-    // The wire's value becomes this, and the next wire is the one after it.
-    fn told(self, place: Place, wire: usize, value: bool) -> Self
-        requires { ⌜ wire < 26 ⌝ }
-        ensures { λ r. ⌜ r ≡ told self place wire value ⌝ }
-    {
-        let mut values = self.values;
-        values[wire] = value;
-        Reader {
-            place,
-            time: self.time,
-            next: wire + 1,
-            values,
+        let place = self.place;
+        if let Place::Opening(at) = place {
+            let same = opening_in(at, part);
+            return self.opened(at, same).take_all(self, same, part, values);
         }
+        self.take_all(self, 0, part, values)
     }
 
-    // A byte of a text that every dump has, by whether it is that byte and the last one.
-    fn at_text(self, same: bool, last: bool, on: Place, behind: Place) -> Self
-        ensures { λ r. ⌜ r ≡ byteOfText self same last on behind ⌝ }
+    // The end of the dump: its last moment.
+    pub fn finish(self, values: &mut [u8]) -> Took
+        ensures { λ r. ⌜ (r, now (values .exit)) ≡ finishOf self (now (values .entry)) ⌝ }
     {
-        if same {
-            if last {
-                return self.moved(behind);
+        if values.len() != WIRES {
+            return self.refused(8);
+        }
+        if self.complete() {
+            let shown = self.values;
+            show(shown, values);
+            return self.gives(self.time, 0);
+        }
+        self.refused(9)
+    }
+
+    // Behind so many bytes of what every dump begins with.
+    fn opened(self, at: usize, same: usize) -> Self
+        requires { ⌜ same ≤ openingLength - at ⌝ }
+        ensures { λ r. ⌜ r ≡ opened self at same ⌝ }
+    {
+        if same == 0 {
+            return self;
+        }
+        let to = at + same;
+        self.at_text(
+            true,
+            to == OPENING_LENGTH,
+            Place::Opening(to),
+            Place::FirstValue,
+        )
+    }
+
+    // Takes in the part from a place on, up to the byte that begins the next moment, or to its end; a refusal gives the reader back that
+    // it started with.
+    fn take_all(self, start: Reader, from: usize, part: &[u8], values: &mut [u8]) -> Took
+        requires { ⌜ (from ≤ length (now part)) × (length (now values) ≡ wires) ⌝ }
+        ensures { λ r. ⌜ (r, now (values .exit)) ≡ takenFrom start self from (drop from (now (part .entry))) (now (values .entry)) ⌝ }
+    {
+        let mut reader = self;
+        let mut i = from;
+        while i < part.len() {
+            let b = part[i];
+            let after = reader.byte(b);
+            let place = after.place;
+            if is_bad(place) {
+                return start.refused(9);
             }
-            return self.moved(on);
+            if reader.begins(b) {
+                let shown = reader.values;
+                show(shown, values);
+                return after.gives(reader.time, i + 1);
+            }
+            reader = after;
+            i += 1;
         }
-        self.bad()
+        reader.goes_on(i)
+    }
+
+    // A byte.
+    fn byte(self, b: u8) -> Self
+        ensures { λ r. ⌜ r ≡ byteOf self b ⌝ }
+    {
+        let place = self.place;
+        match place {
+            Place::Opening(at) => self.at_opening(at, b),
+            Place::FirstValue => self.at_first_value(b),
+            Place::FirstCode => self.at_first_code(b),
+            Place::FirstEnd => self.at_first_end(b),
+            Place::Closing(at) => self.at_closing(at, b),
+            Place::Line => self.at_line(b),
+            Place::Time(n) => self.at_time(n, b),
+            Place::Code(value) => self.at_code(value, b),
+            Place::End => self.at_end(b),
+            Place::Bad => self,
+        }
     }
 
     // What every dump begins with.
     fn at_opening(self, at: usize, b: u8) -> Self
         ensures { λ r. ⌜ r ≡ atOpening self at b ⌝ }
     {
-        if dump::OPENING_LENGTH <= at {
+        if OPENING_LENGTH <= at {
             return self.bad();
         }
-        let same = b == dump::opening_byte(at);
-        let last = at + 1 == dump::OPENING_LENGTH;
+        let text = dump::opening();
+        let same = b == text[at];
+        let last = at + 1 == OPENING_LENGTH;
         self.at_text(same, last, Place::Opening(at + 1), Place::FirstValue)
     }
 
@@ -251,11 +248,12 @@ impl Reader {
     fn at_closing(self, at: usize, b: u8) -> Self
         ensures { λ r. ⌜ r ≡ atClosing self at b ⌝ }
     {
-        if dump::CLOSING_LENGTH <= at {
+        if CLOSING_LENGTH <= at {
             return self.bad();
         }
-        let same = b == dump::closing_byte(at);
-        let last = at + 1 == dump::CLOSING_LENGTH;
+        let text = dump::closing();
+        let same = b == text[at];
+        let last = at + 1 == CLOSING_LENGTH;
         self.at_text(same, last, Place::Closing(at + 1), Place::Line)
     }
 
@@ -333,22 +331,51 @@ impl Reader {
         self.bad()
     }
 
-    // A byte.
-    fn byte(self, b: u8) -> Self
-        ensures { λ r. ⌜ r ≡ byteOf self b ⌝ }
+    // A byte of a text that every dump has, by whether it is that byte and the last one.
+    fn at_text(self, same: bool, last: bool, on: Place, behind: Place) -> Self
+        ensures { λ r. ⌜ r ≡ byteOfText self same last on behind ⌝ }
     {
-        let place = self.place;
-        match place {
-            Place::Opening(at) => self.at_opening(at, b),
-            Place::FirstValue => self.at_first_value(b),
-            Place::FirstCode => self.at_first_code(b),
-            Place::FirstEnd => self.at_first_end(b),
-            Place::Closing(at) => self.at_closing(at, b),
-            Place::Line => self.at_line(b),
-            Place::Time(n) => self.at_time(n, b),
-            Place::Code(value) => self.at_code(value, b),
-            Place::End => self.at_end(b),
-            Place::Bad => self,
+        if same {
+            if last {
+                return self.moved(behind);
+            }
+            return self.moved(on);
+        }
+        self.bad()
+    }
+
+    // The wire's value becomes this, and the next wire is the one after it.
+    fn told(self, place: Place, wire: usize, value: bool) -> Self
+        requires { ⌜ wire < wires ⌝ }
+        ensures { λ r. ⌜ r ≡ told self place wire value ⌝ }
+    {
+        let mut values = self.values;
+        values[wire] = value;
+        Reader {
+            place,
+            time: self.time,
+            next: wire + 1,
+            values,
+        }
+    }
+
+    // A byte that no dump has there.
+    fn bad(self) -> Self
+        ensures { λ r. ⌜ r ≡ bad self ⌝ }
+    {
+        self.moved(Place::Bad)
+    }
+
+    // The reader at another place.
+    fn moved(self, place: Place) -> Self
+        ensures { λ r. ⌜ r ≡ moved self place ⌝ }
+    {
+        let values = self.values;
+        Reader {
+            place,
+            time: self.time,
+            next: self.next,
+            values,
         }
     }
 
@@ -405,55 +432,79 @@ impl Reader {
             reader: self,
         }
     }
+}
 
-    // Takes in the part up to the byte that begins the next moment, or to its end.
-    fn take_all(self, part: &[u8], values: &mut [u8]) -> Took
-        requires { ⌜ length (now values) ≡ 26 ⌝ }
-        ensures { λ r. ⌜ (r, now (values .exit)) ≡ takenFrom self self 0 (now (part .entry)) (now (values .entry)) ⌝ }
-    {
-        let mut reader = self;
-        let mut i = 0;
-        while i < part.len() {
-            let b = part[i];
-            let after = reader.byte(b);
-            let place = after.place;
-            if is_bad(place) {
-                return self.refused(9);
-            }
-            if reader.begins(b) {
-                let shown = reader.values;
-                show(shown, values);
-                return after.gives(reader.time, i + 1);
-            }
-            reader = after;
-            i += 1;
+// How many bytes of the part go on with what every dump begins with, from a place of that on: so the text is made once for all of them.
+fn opening_in(at: usize, part: &[u8]) -> usize
+    ensures { λ r. ⌜ r ≡ sameFor (now (part .entry)) (drop at openingText) ⌝ }
+{
+    let text = dump::opening();
+    let mut to = at;
+    let mut i = 0;
+    while i < part.len() {
+        if OPENING_LENGTH <= to {
+            return i;
         }
-        reader.goes_on(i)
+        if part[i] != text[to] {
+            return i;
+        }
+        to += 1;
+        i += 1;
     }
+    i
+}
 
-    // Takes in a part of a dump, up to the byte that begins the next moment or to its end. Where a moment is complete, its values
-    // go into the lent buffer of 26 bytes, each 0 or 1; the rest of the part is for the next call.
-    pub fn take(self, part: &[u8], values: &mut [u8]) -> Took
-        ensures { λ r. ⌜ (r, now (values .exit)) ≡ takeOf self (now (part .entry)) (now (values .entry)) ⌝ }
-    {
-        if values.len() != WIRES {
-            return self.refused(8);
-        }
-        self.take_all(part, values)
+// A value, 0 or 1.
+fn is_value(b: u8) -> bool
+    ensures { λ r. ⌜ r ≡ isValue b ⌝ }
+{
+    (b == b'0') | (b == b'1')
+}
+
+// At the start of a line.
+fn is_line(place: Place) -> bool
+    ensures { λ r. ⌜ r ≡ isLine place ⌝ }
+{
+    match place {
+        Place::Opening(_) => false,
+        Place::FirstValue => false,
+        Place::FirstCode => false,
+        Place::FirstEnd => false,
+        Place::Closing(_) => false,
+        Place::Line => true,
+        Place::Time(_) => false,
+        Place::Code(_) => false,
+        Place::End => false,
+        Place::Bad => false,
     }
+}
 
-    // The end of the dump: its last moment.
-    pub fn finish(self, values: &mut [u8]) -> Took
-        ensures { λ r. ⌜ (r, now (values .exit)) ≡ finishOf self (now (values .entry)) ⌝ }
-    {
-        if values.len() != WIRES {
-            return self.refused(8);
-        }
-        if self.complete() {
-            let shown = self.values;
-            show(shown, values);
-            return self.gives(self.time, 0);
-        }
-        self.refused(9)
+// Refused for good.
+fn is_bad(place: Place) -> bool
+    ensures { λ r. ⌜ r ≡ isBad place ⌝ }
+{
+    match place {
+        Place::Opening(_) => false,
+        Place::FirstValue => false,
+        Place::FirstCode => false,
+        Place::FirstEnd => false,
+        Place::Closing(_) => false,
+        Place::Line => false,
+        Place::Time(_) => false,
+        Place::Code(_) => false,
+        Place::End => false,
+        Place::Bad => true,
+    }
+}
+
+// The values of a moment into the lent buffer, each 0 or 1.
+fn show(values: [bool; WIRES], out: &mut [u8])
+    requires { ⌜ length (now out) ≡ wires ⌝ }
+    ensures { λ r. ⌜ now (out .exit) ≡ bits values ⌝ }
+{
+    let mut i = 0;
+    while i < WIRES {
+        out[i] = values[i] as u8;
+        i += 1;
     }
 }

@@ -8,7 +8,7 @@ use lib.ListN.{length, getD, take}
 use lib.Seq.{take-all}
 use Rattle.texts.specs.Puts.{Put}
 use Rattle.texts.proofs.Placing.{then, same-piece, put-nothing}
-use Rattle.dump.specs.Wires.{firstCode}
+use Rattle.dump.specs.Wires.{wires, firstCode}
 use Rattle.dump.specs.Dumps.{changesFrom}
 use Rattle.dump.proofs.Lines.{changes-turn, change-length}
 use borrow.Author.Needs.{needs}
@@ -17,10 +17,10 @@ use Rattle.dump.proofs.put_changes.Tie as tie
 
 abbrev Inv-loop : tie.InvT-loop
 Inv-loop line₀ at olds news next₀ i₀ line next i =
-    (i ≤ 26) × (next ≤ at + 3 * i) × (length line ≡ length line₀) × Put line₀ at (changesFrom firstCode (take i olds) (take i news)) line next
+    (i ≤ wires) × (next ≤ at + 3 * i) × (length line ≡ length line₀) × Put line₀ at (changesFrom firstCode (take i olds) (take i news)) line next
 
 abbrev μ-loop : tie.MeasureT-loop
-μ-loop line₀ at olds news next₀ i₀ line next i = 26 - i
+μ-loop line₀ at olds news next₀ i₀ line next i = wires - i
 
 loop-holds : tie.Need-loop-holds Inv-loop μ-loop
 unfolding changesFrom
@@ -52,8 +52,8 @@ loop-again c =
     let put = c .before .before in
     let l = put .before .before .before .loop in
     let a = put .before .before .before .before .before .args in
-    let long : length (a .t3) ≡ 26 = search needs in
-    let long′ : length (a .t4) ≡ 26 = search needs in (
+    let long : length (a .t3) ≡ wires = search needs in
+    let long′ : length (a .t4) ≡ wires = search needs in (
       omega arith,
       omega (arith, put .put-change .ensures .place, change-length (firstCode + l .i) (getD (a .t3) (l .i) false) (getD (a .t4) (l .i) false)),
       put .put-change .ensures .size ∙ l .inv .2,
@@ -67,8 +67,8 @@ returns : tie.Need-returns Inv-loop μ-loop
 returns c =
     let l = c .before .loop in
     let a = c .before .before .before .args in
-    let long : length (a .t3) ≡ 26 = search needs in
-    let long′ : length (a .t4) ≡ 26 = search needs in
+    let long : length (a .t3) ≡ wires = search needs in
+    let long′ : length (a .t4) ≡ wires = search needs in
     same-piece (ap₂ (changesFrom firstCode) (take-all (l .i) (a .t3) (omega (arith, long))) (take-all (l .i) (a .t4) (omega (arith, long′))))
     (l .inv .3)
 

@@ -5,7 +5,7 @@ use mathlib.Core.Path.{_≡_, sym, _∙_}
 use lib.ListN.{length}
 use borrow.Author.Needs.{needs}
 use Rattle.texts.proofs.Placing.{then}
-use Rattle.dump.specs.Wires.{firstCode}
+use Rattle.dump.specs.Wires.{wires, firstCode}
 use Rattle.dump.specs.Dumps.{changesFrom, momentText}
 use Rattle.dump.proofs.Lines.{changes-length, not-timed, is-timed}
 use Rattle.dump.proofs.put_moment.Statement.{statement}
@@ -40,7 +40,7 @@ returns-2 c =
     let a = q .before .before .before .args in
     let time = q .put-time .ensures in
     let changes = p .put-changes .ensures in
-    let long : length (a .news) ≡ 26 = search needs in (
+    let long : length (a .news) ≡ wires = search needs in (
       omega (arith, time .0, changes .place, changes-length firstCode (a .olds) (a .news), long),
       then (time .1) changes .text ∙ sym (is-timed (a .time) (changesFrom firstCode (a .olds) (a .news)) (omega (arith, changes .place, c .if1 .left))),
     )

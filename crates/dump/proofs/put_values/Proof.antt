@@ -2,27 +2,28 @@
 -- Assumes nothing.
 use Prim.Native.Nat.{_+_, _-_, _*_, _≤_}
 use native.Mathlib.Omega.{arith}
+use mathlib.Core.Bool.{false}
 use mathlib.Core.Path.{_≡_, refl, ap, _∙_}
 use lib.ListN.{length, take}
 use lib.Seq.{take-all}
 use Rattle.texts.specs.Puts.{Put}
 use Rattle.texts.proofs.Placing.{then, same-piece, put-nothing}
-use Rattle.dump.specs.Wires.{firstCode}
-use Rattle.dump.specs.Dumps.{valueLines}
-use Rattle.dump.proofs.Lines.{values-turn}
+use Rattle.dump.specs.Wires.{wires, firstCode}
+use Rattle.dump.specs.Dumps.{linesFrom, valueLine, valueLines}
+use Rattle.dump.proofs.Lines.{lines-turn}
 use borrow.Author.Needs.{needs}
 use Rattle.dump.proofs.put_values.Statement.{statement}
 use Rattle.dump.proofs.put_values.Tie as tie
 
 abbrev Inv-loop : tie.InvT-loop
 Inv-loop line₀ at values next₀ i₀ line next i =
-    (i ≤ 26) × (next ≤ at + 3 * i) × (length line ≡ length line₀) × Put line₀ at (valueLines firstCode (take i values)) line next
+    (i ≤ wires) × (next ≤ at + 3 * i) × (length line ≡ length line₀) × Put line₀ at (valueLines firstCode (take i values)) line next
 
 abbrev μ-loop : tie.MeasureT-loop
-μ-loop line₀ at values next₀ i₀ line next i = 26 - i
+μ-loop line₀ at values next₀ i₀ line next i = wires - i
 
 loop-holds : tie.Need-loop-holds Inv-loop μ-loop
-unfolding valueLines
+unfolding linesFrom
 loop-holds c = (omega arith, omega arith, refl, put-nothing (c .before .args .line .now) (c .before .args .at))
 
 cast-put-value : tie.Need-cast-put-value Inv-loop μ-loop
@@ -48,11 +49,11 @@ loop-again c =
     let put = c .before .before in
     let l = put .before .before .before .loop in
     let a = put .before .before .before .before .before .args in
-    let long : length (a .t3) ≡ 26 = search needs in (
+    let long : length (a .t3) ≡ wires = search needs in (
       omega arith,
       omega (arith, put .put-value .ensures .place),
       put .put-value .ensures .size ∙ l .inv .2,
-      same-piece (values-turn (l .i) (a .t3) (omega (arith, long))) (then (l .inv .3) (put .put-value .ensures)),
+      same-piece (lines-turn false valueLine (l .i) (a .t3) (omega (arith, long))) (then (l .inv .3) (put .put-value .ensures)),
     )
 
 same-length : tie.Need-same-length Inv-loop μ-loop
@@ -62,7 +63,7 @@ returns : tie.Need-returns Inv-loop μ-loop
 returns c =
     let l = c .before .loop in
     let a = c .before .before .before .args in
-    let long : length (a .t3) ≡ 26 = search needs in
+    let long : length (a .t3) ≡ wires = search needs in
     same-piece (ap (valueLines firstCode) (take-all (l .i) (a .t3) (omega (arith, long))))
     (l .inv .3)
 

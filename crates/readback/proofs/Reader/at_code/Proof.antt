@@ -5,6 +5,7 @@ use mathlib.Core.Bool.{false}
 use lib.ListN.{getD}
 use borrow.Author.Tests.{le-leb, lt-leb, lt-ltb, le-ltb}
 use borrow.Author.Needs.{needs}
+use Rattle.dump.specs.Wires.{wires, firstCode}
 use Rattle.readback.specs.Bytes.{atCode}
 use Rattle.dump.proofs.Lines.{is-same, is-another}
 use Rattle.readback.proofs.Reader.at_code.Statement.{statement}
@@ -15,7 +16,7 @@ bad-requires c κs = search needs
 
 returns : tie.Need-returns
 unfolding atCode
-returns c = simp (c .bad .ensures, lt-leb 33 _ (c .before .if1 .taken))
+returns c = simp (c .bad .ensures, lt-leb firstCode _ (c .before .if1 .taken))
 
 cast-wire : tie.Need-cast-wire
 cast-wire c = search needs
@@ -27,7 +28,7 @@ returns-2 : tie.Need-returns-2
 unfolding atCode
 returns-2 c =
     let test = c .before in
-    simp (c .bad2 .ensures, le-leb 33 _ (test .before .before .if1 .left), lt-leb _ _ (test .if2 .taken))
+    simp (c .bad2 .ensures, le-leb firstCode _ (test .before .before .if1 .left), lt-leb _ _ (test .if2 .taken))
 
 bad-requires-3 : tie.Need-bad-requires-3
 bad-requires-3 c κs = search needs
@@ -38,9 +39,9 @@ returns-3 c =
     let test = c .before .before in
     simp (
       c .bad3 .ensures,
-      le-leb 33 _ (test .before .before .if1 .left),
+      le-leb firstCode _ (test .before .before .if1 .left),
       le-leb _ _ (test .if2 .left),
-      le-ltb _ 26 (c .before .if3 .taken),
+      le-ltb _ wires (c .before .if3 .taken),
     )
 
 array-read-if4 : tie.Need-array-read-if4
@@ -57,10 +58,10 @@ returns-4 c =
     let a = test .before .before .before .args in
     simp (
       c .bad4 .ensures,
-      le-leb 33 _ (test .before .before .if1 .left),
+      le-leb firstCode _ (test .before .before .if1 .left),
       le-leb _ _ (test .if2 .left),
-      lt-ltb _ 26 (past .if3 .left),
-      is-same (getD (a .self .values) (a .b - 33) false) (a .value) (c .before .if4 .taken),
+      lt-ltb _ wires (past .if3 .left),
+      is-same (getD (a .self .values) (a .b - firstCode) false) (a .value) (c .before .if4 .taken),
     )
 
 told-requires : tie.Need-told-requires
@@ -74,10 +75,10 @@ returns-5 c =
     let a = test .before .before .before .args in
     simp (
       c .told .ensures,
-      le-leb 33 _ (test .before .before .if1 .left),
+      le-leb firstCode _ (test .before .before .if1 .left),
       le-leb _ _ (test .if2 .left),
-      lt-ltb _ 26 (past .if3 .left),
-      is-another (getD (a .self .values) (a .b - 33) false) (a .value) (c .before .if4 .left),
+      lt-ltb _ wires (past .if3 .left),
+      is-another (getD (a .self .values) (a .b - firstCode) false) (a .value) (c .before .if4 .left),
     )
 
 pub at-code-spec : {M : Type 1} → statement M

@@ -3,6 +3,7 @@
 use lib.Dec.{ltb}
 use borrow.Author.Tests.{ltb-true}
 use borrow.Author.Needs.{needs}
+use Rattle.dump.specs.Wires.{wires}
 use Rattle.readback.specs.Bytes.{atFirstValue}
 use Rattle.readback.proofs.Places.{both-hold}
 use Rattle.readback.proofs.Reader.at_first_value.Statement.{statement}
@@ -13,7 +14,7 @@ is-value-requires c κs = search needs
 
 told-requires : tie.Need-told-requires
 told-requires c κs = let a = c .before .before .args in
-    ltb-true (a .self .next) 26 (both-hold (c .before .is-value .result) (ltb (a .self .next) 26) (c .if1 .taken) .1)
+    ltb-true (a .self .next) wires (both-hold (c .before .is-value .result) (ltb (a .self .next) wires) (c .if1 .taken) .1)
 
 returns : tie.Need-returns
 unfolding atFirstValue

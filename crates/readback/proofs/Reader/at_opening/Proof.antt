@@ -1,8 +1,11 @@
 -- `readback::Reader::at_opening` meets its contract: past the text, and within it.
 -- Assumes nothing.
+use Prim.Native.Nat.{ℕ}
+use mathlib.Core.List.{List}
+use mathlib.Core.Path.{ap, _∙_}
+use lib.ListN.{getD}
 use borrow.Author.Needs.{needs}
-use mathlib.Core.Path.{_∙_}
-use Rattle.dump.specs.Dumps.{openingText}
+use Rattle.dump.specs.Dumps.{openingText, openingLength}
 use Rattle.dump.proofs.Lines.{opening-length}
 use Rattle.readback.specs.declared.Place.the-variants.{Opening, FirstValue}
 use Rattle.readback.specs.Bytes.{atOpening}
@@ -17,16 +20,19 @@ returns : tie.Need-returns
 unfolding atOpening
 returns c =
     let a = c .before .before .args in
-    c .bad .ensures ∙ past-text openingText Opening FirstValue (a .self) (a .at) (a .b) 995 opening-length (c .before .if1 .taken)
+    c .bad .ensures ∙ past-text openingText Opening FirstValue (a .self) (a .at) (a .b) openingLength opening-length (c .before .if1 .taken)
 
-opening-byte-requires : tie.Need-opening-byte-requires
-opening-byte-requires c κs = search needs
+opening-requires : tie.Need-opening-requires
+opening-requires c κs = search needs
+
+array-read-same : tie.Need-array-read-same
+array-read-same c = search needs
 
 add-last : tie.Need-add-last
 add-last c = search needs
 
-add-t8 : tie.Need-add-t8
-add-t8 c = search needs
+add-t12 : tie.Need-add-t12
+add-t12 c = search needs
 
 at-text-requires : tie.Need-at-text-requires
 at-text-requires c κs = search needs
@@ -34,12 +40,12 @@ at-text-requires c κs = search needs
 returns-2 : tie.Need-returns-2
 unfolding atOpening
 returns-2 c =
-    let byte = c .before in
-    let a = byte .before .before .args in
+    let made = c .before in
+    let a = made .before .before .args in
     c .at-text .ensures
-    ∙ within-text openingText Opening FirstValue (a .self) (a .at) (a .b) 995 opening-length _ (byte .opening-byte .ensures) (byte .before .if1 .left)
+    ∙ within-text openingText Opening FirstValue (a .self) (a .at) (a .b) openingLength opening-length _ (ap (λ (l : List ℕ). getD l (a .at) 0) (made .opening .ensures)) (made .before .if1 .left)
 
 pub at-opening-spec : {M : Type 1} → statement M
 at-opening-spec =
     tie.close
-    (tie.spec bad-requires returns opening-byte-requires add-last add-t8 at-text-requires returns-2)
+    (tie.spec bad-requires returns opening-requires array-read-same add-last add-t12 at-text-requires returns-2)

@@ -5,6 +5,8 @@ use native.Mathlib.Omega.{arith}
 use borrow.Author.Tests.{eqb-true, le-leb, lt-leb, lt-ltb, le-ltb}
 use borrow.Author.Needs.{needs}
 use lib.Dec.{eqb, ltb}
+use Rattle.common.specs.Ascii.{lf}
+use Rattle.common.specs.Decimal.{digit0}
 use Rattle.readback.specs.Bytes.{atTime}
 use Rattle.readback.proofs.Places.{both-hold}
 use Rattle.readback.proofs.Reader.at_time.Statement.{statement}
@@ -14,15 +16,15 @@ returns : tie.Need-returns
 unfolding atTime
 returns c =
     let a = c .before .before .before .args in
-    let ten = eqb-true (a .b) 10 (both-hold (eqb (a .b) 10) (ltb (a .self .time) (a .n)) (c .before .if1 .taken) .0) in
-    simp (lt-leb 48 (a .b) (omega (arith, ten)), c .before .if1 .taken)
+    let ten = eqb-true (a .b) lf (both-hold (eqb (a .b) lf) (ltb (a .self .time) (a .n)) (c .before .if1 .taken) .0) in
+    simp (lt-leb digit0 (a .b) (omega (arith, ten)), c .before .if1 .taken)
 
 bad-requires : tie.Need-bad-requires
 bad-requires c κs = search needs
 
 returns-2 : tie.Need-returns-2
 unfolding atTime
-returns-2 c = simp (c .bad .ensures, lt-leb 48 _ (c .before .if2 .taken), c .before .before .if1 .left)
+returns-2 c = simp (c .bad .ensures, lt-leb digit0 _ (c .before .if2 .taken), c .before .before .if1 .left)
 
 bad-requires-2 : tie.Need-bad-requires-2
 bad-requires-2 c κs = search needs
@@ -32,8 +34,8 @@ unfolding atTime
 returns-3 c =
     simp (
       c .bad2 .ensures,
-      le-leb 48 _ (c .before .before .if2 .left),
-      lt-leb _ 57 (c .before .if3 .taken),
+      le-leb digit0 _ (c .before .before .if2 .left),
+      lt-leb _ (digit0 + 9) (c .before .if3 .taken),
       c .before .before .before .if1 .left,
     )
 
@@ -53,8 +55,8 @@ returns-4 c =
     let a = t .before .before .before .before .before .args in
     simp (
       c .bad3 .ensures,
-      le-leb 48 (a .b) (t .before .before .if2 .left),
-      le-leb (a .b) 57 (t .before .if3 .left),
+      le-leb digit0 (a .b) (t .before .before .if2 .left),
+      le-leb (a .b) (digit0 + 9) (t .before .if3 .left),
       lt-ltb 0 (a .n * 10 + (a .b - 48)) (omega (arith, t .if4 .taken)),
       le-ltb (a .n * 10 + (a .b - 48)) (2 ^ 64) (omega (arith, t .if4 .taken)),
       t .before .before .before .if1 .left,
@@ -76,8 +78,8 @@ returns-5 c =
     let a = t .before .before .before .before .before .before .args in
     simp (
       c .bad4 .ensures,
-      le-leb 48 (a .b) (t .before .before .before .if2 .left),
-      le-leb (a .b) 57 (t .before .before .if3 .left),
+      le-leb digit0 (a .b) (t .before .before .before .if2 .left),
+      le-leb (a .b) (digit0 + 9) (t .before .before .if3 .left),
       le-ltb 0 (a .n * 10 + (a .b - 48)) (omega (arith, t .if5 .taken)),
       t .before .before .before .before .if1 .left,
     )
@@ -92,8 +94,8 @@ returns-6 c =
     let a = t .before .before .before .before .before .before .args in
     simp (
       c .moved .ensures,
-      le-leb 48 (a .b) (t .before .before .before .if2 .left),
-      le-leb (a .b) 57 (t .before .before .if3 .left),
+      le-leb digit0 (a .b) (t .before .before .before .if2 .left),
+      le-leb (a .b) (digit0 + 9) (t .before .before .if3 .left),
       lt-ltb 0 (a .n * 10 + (a .b - 48)) (omega (arith, t .if5 .left)),
       lt-ltb (a .n * 10 + (a .b - 48)) (2 ^ 64) (omega (arith, t .before .if4 .left)),
     )

@@ -2,6 +2,7 @@
 -- Assumes nothing.
 use borrow.Author.Tests.{eq-eqb, ne-eqb}
 use borrow.Author.Needs.{needs}
+use Rattle.dump.specs.Wires.{wires}
 use Rattle.readback.specs.Reads.{finishOf}
 use Rattle.readback.proofs.Reader.finish.Statement.{statement}
 use Rattle.readback.proofs.Reader.finish.Tie as tie
@@ -11,7 +12,7 @@ refused-requires c κs = search needs
 
 returns : tie.Need-returns
 unfolding finishOf
-returns c = simp (c .refused .ensures, ne-eqb _ 26 (c .before .if1 .taken))
+returns c = simp (c .refused .ensures, ne-eqb _ wires (c .before .if1 .taken))
 
 complete-requires : tie.Need-complete-requires
 complete-requires c κs = search needs
@@ -33,7 +34,7 @@ returns-2 c =
     simp (
       c .gives .ensures,
       shown .show .ensures,
-      eq-eqb _ 26 (test .before .before .if1 .left),
+      eq-eqb _ wires (test .before .before .if1 .left),
       ← test .before .complete .ensures,
       test .if2 .taken,
     )
@@ -47,7 +48,7 @@ returns-3 c =
     let test = c .before in
     simp (
       c .refused2 .ensures,
-      eq-eqb _ 26 (test .before .before .if1 .left),
+      eq-eqb _ wires (test .before .before .if1 .left),
       ← test .before .complete .ensures,
       test .if2 .left,
     )

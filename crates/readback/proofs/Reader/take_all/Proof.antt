@@ -1,4 +1,4 @@
--- `readback::Reader::take_all` meets its contract. The loop's invariant: the rule gives for the whole part what it gives from here on.
+-- `readback::Reader::take_all` meets its contract. The loop's invariant: the rule gives from the start on what it gives from here on.
 -- Assumes nothing.
 use Prim.Native.Nat.{ℕ, _+_, _-_, _≤_}
 use native.Mathlib.Omega.{arith}
@@ -15,11 +15,11 @@ use Rattle.readback.proofs.Reader.take_all.Statement.{statement}
 use Rattle.readback.proofs.Reader.take_all.Tie as tie
 
 abbrev Inv-loop : tie.InvT-loop
-Inv-loop self part values₀ reader₀ i₀ values reader i =
-    (i ≤ length part) × (values ≡ values₀) × (takenFrom self self 0 part values₀ ≡ takenFrom self reader i (drop i part) values₀)
+Inv-loop start from part values₀ reader₀ i₀ values reader i =
+    (i ≤ length part) × (values ≡ values₀) × (takenFrom start reader₀ from (drop from part) values₀ ≡ takenFrom start reader i (drop i part) values₀)
 
 abbrev μ-loop : tie.MeasureT-loop
-μ-loop self part values₀ reader₀ i₀ values reader i = length part - i
+μ-loop start from part values₀ reader₀ i₀ values reader i = length part - i
 
 loop-holds : tie.Need-loop-holds Inv-loop μ-loop
 loop-holds c = search needs
@@ -52,7 +52,7 @@ returns c =
     let l = test .before .before .before .before .before .loop in
     let a = test .before .before .before .before .before .before .before .before .args in
     ap₂ (λ (t : Took) (v : List ℕ). (t, v)) (c .refused .ensures) (l .inv .1)
-    ∙ sym (l .inv .2 ∙ turned-bad (a .self) (l .reader) (l .i) (a .part .now) (a .values .now) (omega arith) (judged (test .before) ∙ test .if1 .taken))
+    ∙ sym (l .inv .2 ∙ turned-bad (a .start) (l .reader) (l .i) (a .part .now) (a .values .now) (omega arith) (judged (test .before) ∙ test .if1 .taken))
 
 begins-requires : tie.Need-begins-requires Inv-loop μ-loop
 begins-requires c κs = search needs
@@ -62,7 +62,7 @@ show-requires c κs =
     let test = c .before .before .before .before in
     let l = test .before .before .before .before .before .loop in
     let s = test .before .before .before .before .before .before .before .before in
-    ap length (l .inv .1) ∙ s .pre
+    ap length (l .inv .1) ∙ s .pre .1
 
 add-gives : tie.Need-add-gives Inv-loop μ-loop
 add-gives c = search needs
@@ -81,7 +81,7 @@ returns-2 c =
     let l = test .before .before .before .before .before .loop in
     let a = test .before .before .before .before .before .before .before .before .args in
     ap₂ (λ (t : Took) (v : List ℕ). (t, v)) (c .gives .ensures ∙ ap (givesMoment (l .reader .time) (l .i + 1)) (test .before .before .byte .ensures)) (shown .show .ensures)
-    ∙ sym (l .inv .2 ∙ turned-moment (a .self) (l .reader) (l .i) (a .part .now) (a .values .now) (omega arith) (judged (test .before) ∙ test .if1 .left) (sym (next .before .begins .ensures) ∙ next .if2 .taken))
+    ∙ sym (l .inv .2 ∙ turned-moment (a .start) (l .reader) (l .i) (a .part .now) (a .values .now) (omega arith) (judged (test .before) ∙ test .if1 .left) (sym (next .before .begins .ensures) ∙ next .if2 .taken))
 
 add-i : tie.Need-add-i Inv-loop μ-loop
 add-i c = search needs
@@ -97,8 +97,8 @@ loop-again c =
       omega arith,
       l .inv .1,
       l .inv .2
-          ∙ turned (a .self) (l .reader) (l .i) (a .part .now) (a .values .now) (omega arith) (judged (test .before) ∙ test .if1 .left) (sym (c .before .begins .ensures) ∙ c .if2 .left)
-          ∙ ap (λ (r : Reader). takenFrom (a .self) r (l .i + 1) (drop (l .i + 1) (a .part .now)) (a .values .now)) (sym (test .before .before .byte .ensures)),
+          ∙ turned (a .start) (l .reader) (l .i) (a .part .now) (a .values .now) (omega arith) (judged (test .before) ∙ test .if1 .left) (sym (c .before .begins .ensures) ∙ c .if2 .left)
+          ∙ ap (λ (r : Reader). takenFrom (a .start) r (l .i + 1) (drop (l .i + 1) (a .part .now)) (a .values .now)) (sym (test .before .before .byte .ensures)),
     )
 
 goes-on-requires : tie.Need-goes-on-requires Inv-loop μ-loop
@@ -112,7 +112,7 @@ returns-3 c =
     let l = c .before .before .loop in
     let a = c .before .before .before .before .before .args in
     ap₂ (λ (t : Took) (v : List ℕ). (t, v)) (c .goes-on .ensures) (l .inv .1)
-    ∙ sym (l .inv .2 ∙ used-up (a .self) (l .reader) (l .i) (a .part .now) (a .values .now) (omega arith))
+    ∙ sym (l .inv .2 ∙ used-up (a .start) (l .reader) (l .i) (a .part .now) (a .values .now) (omega arith))
 
 pub take-all-spec : {M : Type 1} → statement M
 take-all-spec =

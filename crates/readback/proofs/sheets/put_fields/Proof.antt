@@ -7,6 +7,7 @@ use lib.ListN.{length, take}
 use lib.Seq.{take-all}
 use Rattle.texts.specs.Puts.{Put}
 use Rattle.texts.proofs.Placing.{then, same-piece, put-nothing}
+use Rattle.dump.specs.Wires.{wires}
 use Rattle.readback.specs.Sheets.{laterFields}
 use Rattle.readback.proofs.Fields.{fields-turn}
 use borrow.Author.Needs.{needs}
@@ -15,10 +16,10 @@ use Rattle.readback.proofs.sheets.put_fields.Tie as tie
 
 abbrev Inv-loop : tie.InvT-loop
 Inv-loop line₀ at values next₀ i₀ line next i =
-    (i ≤ 26) × (next ≤ at + 2 * i) × (length line ≡ length line₀) × Put line₀ at (laterFields (take i values)) line next
+    (i ≤ wires) × (next ≤ at + 2 * i) × (length line ≡ length line₀) × Put line₀ at (laterFields (take i values)) line next
 
 abbrev μ-loop : tie.MeasureT-loop
-μ-loop line₀ at values next₀ i₀ line next i = 26 - i
+μ-loop line₀ at values next₀ i₀ line next i = wires - i
 
 loop-holds : tie.Need-loop-holds Inv-loop μ-loop
 unfolding laterFields
@@ -41,7 +42,7 @@ loop-again c =
     let put = c .before .before in
     let l = put .before .before .before .loop in
     let a = put .before .before .before .before .before .args in
-    let long : length (a .t3) ≡ 26 = search needs in (
+    let long : length (a .t3) ≡ wires = search needs in (
       omega arith,
       omega (arith, put .put-field .ensures .place),
       put .put-field .ensures .size ∙ l .inv .2,
@@ -55,7 +56,7 @@ returns : tie.Need-returns Inv-loop μ-loop
 returns c =
     let l = c .before .loop in
     let a = c .before .before .before .args in
-    let long : length (a .t3) ≡ 26 = search needs in
+    let long : length (a .t3) ≡ wires = search needs in
     same-piece (ap laterFields (take-all (l .i) (a .t3) (omega (arith, long))))
     (l .inv .3)
 

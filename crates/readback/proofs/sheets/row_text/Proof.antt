@@ -1,5 +1,4 @@
--- `readback::sheets::row_text` meets its contract: the time, the fields behind it and the end, each after the one before. At most 20,
--- 52 and 2 bytes fit 74.
+-- `readback::sheets::row_text` meets its contract: the time, the fields behind it and the end, each after the one before.
 -- Assumes nothing.
 use native.Mathlib.Omega.{arith}
 use mathlib.Core.Path.{_≡_}
@@ -9,6 +8,7 @@ use Rattle.common.specs.Decimal.{decimal}
 use Rattle.common.proofs.Decimals.{decimal-length}
 use Rattle.texts.specs.Puts.{Put}
 use Rattle.texts.proofs.Placing.{did-put, then, same-piece}
+use Rattle.dump.specs.Wires.{wires}
 use Rattle.readback.proofs.Fields.{row-parts, fields-length}
 use Rattle.readback.proofs.sheets.row_text.Statement.{statement}
 use Rattle.readback.proofs.sheets.row_text.Tie as tie
@@ -41,7 +41,7 @@ returns c =
     let valued = ended .before .before .before .before .before in
     let number = valued .before .before .before .before in
     let a = number .before .before .before .args in
-    let long : length (a .values) ≡ 26 = search needs in
+    let long : length (a .values) ≡ wires = search needs in
     let few = decimal-length 19 (a .time) (omega arith) in
     let fields = fields-length (a .values) in
     let one = timed number in
