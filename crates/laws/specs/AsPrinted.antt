@@ -40,7 +40,9 @@ unfoldable pub printedMoveOf : Aim → Place → Seen → Place
 printedMoveOf ToRetracted p seen = moveOf ToRetracted p seen
 printedMoveOf ToExtended p seen = cond (atAim ToExtended (p .gears)) (doorsHome p seen) (printedOutgoing (p .doors) (p .gears) seen)
 
--- The sequence's stage, and a step, with that move; all else is document 01's.
+-- ---- A step with that move; all else is document 01's
+
+-- The sequence's stage over the core, and over the state.
 unfoldable pub printedSequence : Aim → Seen → Core → Core
 printedSequence aim seen c =
     record {
@@ -58,6 +60,7 @@ printedStage s =
       core = printedSequence (aimed (s .voters)) (seenOf (sightOf (s .voters))) (s .core);
     }
 
+-- An accepted step, and a step.
 unfoldable pub printedAccepted : State → ℕ → List ℕ → State
 printedAccepted s stamp bytes = ordersStage (printedStage (monitorsStage (voteStage bytes (agesStage stamp s))))
 

@@ -38,7 +38,7 @@ answeredAfter ms = shownAnswer (stepOf (freshOf 0) ms (sees 1 0 1 0 1 0 0))
 
 -- ---- A step of the core, of 1 ms, in which the handle does not change
 
--- The cases name ages as the step looks at them: grown. Before it they are 1 ms less.
+-- An order on for so long, and one off. The cases name ages as the step looks at them: grown. Before it they are 1 ms less.
 abbrev pub onFrom : ℕ → Order
 onFrom age = order true (age - 1)
 
@@ -63,6 +63,7 @@ nothingSeen pressurized =
       invalid = false;
     }
 
+-- The core after such a step.
 unfoldable pub stepFrom : Core → Aim → Bool → Core
 stepFrom c aim pressurized = coreStep 1 false aim (nothingSeen pressurized) c
 
@@ -110,6 +111,7 @@ doorsDown p = doorsNumber (stepFrom (coreFrom (generalOnly 1000 1000) oldest p) 
 
 -- ---- The list
 
+-- P4 to P12.
 unfoldable pub stepCases : List Case
 stepCases =
     record { name = "P4 stamps 4,294,967,290 then 4: elapsed 10"; gives = elapsedOf 4294967290 4 ∷ []; wanted = 10 ∷ [] } ∷

@@ -17,16 +17,17 @@ use Rattle.laws.specs.Reached.{Reached}
 use Rattle.laws.specs.GroundModel.{HandleStatus, OneMoveOrNone}
 use Rattle.laws.specs.GroundModel.HandleStatus.{UP, DOWN}
 
--- ---- What the laws speak of, beside what a state shows
+-- ---- What is said of a state, beside what it shows
 
 -- Doors not CLOSED, and no anomaly.
 abbrev pub doorsOutWithoutRed : State → Bool
 doorsOutWithoutRed s = not (areClosed (doorsOf s)) && not (red s)
 
--- The cause is the last of the thirteen; every age is the largest.
+-- The cause is the last of the thirteen.
 abbrev pub hasLastCause : State → Bool
 hasLastCause s = eqb (s .core .cause) lastCause
 
+-- Every age is the largest.
 abbrev pub hasLargestAges : State → Bool
 hasLargestAges s =
     eqb (s .core .orders .general .age) oldest &&
@@ -46,6 +47,7 @@ handleOf s = statusOf (sensor handle (s .voters))
 
 -- ---- Over every sequence of samples, refused ones among them, from a fresh start or a taken image
 
+-- A law holds of every reached state.
 abbrev pub Always : (State → Type 0) → Type 0
 Always Law = (s : State) → Reached s → Law s
 
@@ -53,6 +55,7 @@ Always Law = (s : State) → Reached s → Law s
 abbrev pub Sometimes : (State → Bool) → Type 0
 Sometimes test = (s : State) × Reached s × T (test s)
 
+-- So does each of these tests, of one or another.
 abbrev pub AllSometimes : List (State → Bool) → Type 0
 AllSometimes [] = Unit {0}
 AllSometimes (test ∷ tests) = Sometimes test × AllSometimes tests
@@ -86,8 +89,9 @@ FollowsTheGroundModel s =
     (stamp : ℕ) (bytes : List ℕ) →
     OneMoveOrNone (handleOf (stepOf s stamp bytes .state)) (s .core .place) (stepOf s stamp bytes .state .core .place)
 
--- ---- What these laws speak of
+-- ---- None of these laws is empty
 
+-- What they and request K3's conditions speak of.
 abbrev pub spokenOf : List (State → Bool)
 spokenOf =
     -- each order on

@@ -33,6 +33,7 @@ extension =
     -- doors leave, and are closed
     sees 1 1 1 0 0 0 1 ∷ replicate 11 (sees 1 1 1 0 1 0 1)
 
+-- The whole lesson, a sample each 100 ms.
 unfoldable pub lesson : List Row
 lesson = evenly 100 0 (retraction ++ extension)
 

@@ -24,6 +24,7 @@ isHome aim p = areClosed (p .doors) && atAim aim (p .gears)
 unfoldable pub settled : Aim → Core → Bool
 settled aim c = anomaly c || isHome aim (c .place)
 
+-- It is, and it is not.
 abbrev pub Settled : Aim → Core → Type 0
 Settled aim c = T (settled aim c)
 

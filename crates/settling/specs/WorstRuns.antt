@@ -26,6 +26,7 @@ unfoldable pub rowsFrom : ℕ → List Stretch → List Row
 rowsFrom last [] = []
 rowsFrom last (x ∷ xs) = evenly (x .apart) last (replicate (x .samples) (x .bytes)) ++ rowsFrom (last + x .samples * x .apart) xs
 
+-- It begins at a fresh start.
 unfoldable pub start : State
 start = freshOf 1000
 
