@@ -3,10 +3,8 @@
 -- Assumes nothing.
 use Prim.Native.Nat.{ℕ, _<_, _^_}
 use native.Mathlib.Omega.{arith}
-use mathlib.Core.Bool.{Bool, true, false, cond}
 use mathlib.Core.List.{List, [], _∷_}
-use mathlib.Core.Path.{_≡_, refl, ap}
-use lib.Dec.{eqb}
+use mathlib.Core.Path.{_≡_, refl, sym, ap}
 use Rattle.controller.specs.declared.State.{State}
 use Rattle.controller.specs.declared.Answer.{Answer}
 use Rattle.controller.specs.Start.{startedAt}
@@ -20,7 +18,7 @@ use Rattle.laws.specs.Reached.{Reached}
 use Rattle.laws.specs.Laws.{Always}
 use Rattle.laws.specs.HandedOver.{butForStamp, AnswerTheSame, SameTimes, ahead, allAhead, Of32Bits}
 use Rattle.laws.proofs.Stages.{stages}
-use Rattle.laws.proofs.Lifted.{step-keeps, reached-is-allowed}
+use Rattle.laws.proofs.Lifted.{steps-keep, step-keeps, reached-is-allowed}
 
 -- ---- Saving and loading
 
@@ -55,16 +53,11 @@ module _
 
   same-step : butForStamp (stepOf s a bytes) ≡ butForStamp (stepOf other b bytes)
   unfolding stepAt
-  same-step = rw same-refusal (either (eqb (refusalOf other b bytes) 0))
-    where
-      answer : State → Answer
-      answer t = record { refusal = refusalOf other b bytes; state = t }
-
-      either :
-          (isTaken : Bool) →
-          answer (startedAt 0 (cond isTaken (accepted s a bytes) s)) ≡ answer (startedAt 0 (cond isTaken (accepted other b bytes) other))
-      either true = ap answer same-accepted
-      either false = ap answer same
+  same-step =
+      cc (
+        same-refusal,
+        steps-keep (λ (t u : State). startedAt 0 t ≡ startedAt 0 u) s other a b bytes same-refusal same-accepted same,
+      )
 
 same-row :
     (s other : State) (r q : Row) →
@@ -125,17 +118,12 @@ module _ (ms : ℕ) (s : State) (stamp : ℕ) (bytes : List ℕ) (is32 : s .stam
   accepted-ahead = rw (← elapsed-ahead ms (s .stamp) stamp is32)
 
   step-ahead : stepOf (onAhead ms s) (ahead ms stamp) bytes .state ≡ onAhead ms (stepOf s stamp bytes .state)
-  unfolding stepAt startedAt
+  unfolding startedAt
   step-ahead =
-      rw (← same-refusal s (onAhead ms s) stamp (ahead ms stamp) bytes refl (elapsed-ahead ms (s .stamp) stamp is32))
-      (either (eqb (refusalOf s stamp bytes) 0))
-    where
-      there : State
-      there = accepted (onAhead ms s) (ahead ms stamp) bytes
-
-      either : (isTaken : Bool) → cond isTaken there (onAhead ms s) ≡ onAhead ms (cond isTaken (accepted s stamp bytes) s)
-      either true = accepted-ahead
-      either false = refl
+      steps-keep (λ (t u : State). t ≡ onAhead ms u) (onAhead ms s) s (ahead ms stamp) stamp bytes
+      (sym (same-refusal s (onAhead ms s) stamp (ahead ms stamp) bytes refl (elapsed-ahead ms (s .stamp) stamp is32)))
+      accepted-ahead
+      refl
 
   step-is32 : stamp < 2 ^ 32 → stepOf s stamp bytes .state .stamp < 2 ^ 32
   unfolding stages

@@ -45,14 +45,23 @@ pub taken-is-accepted : (s : State) (stamp : ℕ) (bytes : List ℕ) → stepOf 
 unfolding stepAt
 taken-is-accepted s stamp bytes taken = rw taken refl
 
--- A step keeps what every accepted step keeps.
-pub step-keeps : (P : State → Type 0) (s : State) (stamp : ℕ) (bytes : List ℕ) → P (accepted s stamp bytes) → P s → P (stepOf s stamp bytes .state)
+-- Two steps that get the same refusal keep between them what two accepted ones keep.
+pub steps-keep :
+    (Between : State → State → Type 0) (s other : State) (a b : ℕ) (bytes : List ℕ) →
+    refusalOf s a bytes ≡ refusalOf other b bytes →
+    Between (accepted s a bytes) (accepted other b bytes) →
+    Between s other →
+    Between (stepOf s a bytes .state) (stepOf other b bytes .state)
 unfolding stepAt
-step-keeps P s stamp bytes taken before = either (eqb (refusalOf s stamp bytes) 0)
+steps-keep Between s other a b bytes same taken before = rw same (either (eqb (refusalOf other b bytes) 0))
   where
-    either : (isTaken : Bool) → P (cond isTaken (accepted s stamp bytes) s)
+    either : (isTaken : Bool) → Between (cond isTaken (accepted s a bytes) s) (cond isTaken (accepted other b bytes) other)
     either true = taken
     either false = before
+
+-- A step keeps what every accepted step keeps.
+pub step-keeps : (P : State → Type 0) (s : State) (stamp : ℕ) (bytes : List ℕ) → P (accepted s stamp bytes) → P s → P (stepOf s stamp bytes .state)
+step-keeps P s stamp bytes = steps-keep (λ (t other : State). P t) s s stamp stamp bytes refl
 
 -- ---- What is allowed stays so
 
