@@ -1,5 +1,5 @@
 -- Request K3: an image is taken exactly if its conditions hold, 10 is given exactly if an item is not in range or the length is not
--- 204, and 11 exactly if all are in range and a rule is broken. What is loaded is what the image is of; what is refused changes nothing.
+-- an image's, and 11 exactly if all are in range and a rule is broken. What is loaded is what the image is of; what is refused changes nothing.
 -- Assumes nothing.
 use Prim.Native.Nat.{ℕ}
 use native.Mathlib.Omega.{arith}
@@ -14,12 +14,13 @@ use borrow.Author.Tests.{ne-eqb}
 use Rattle.common.specs.Lowest.{lowest}
 use Rattle.controller.specs.declared.State.{State}
 use Rattle.image.specs.Xdr.{itemsIn}
-use Rattle.image.specs.Items.{sensorTops, coreTops, tops, within}
+use Rattle.image.specs.Items.{tops, within}
 use Rattle.image.specs.Rules.{rulesHold}
 use Rattle.image.specs.Images.{size, fits, loadedAt, refusalOf, loadOf}
 use Rattle.image.specs.Conditions.{KeepsRules, InRange, Taken}
 use Rattle.image.proofs.Fours.{items-length}
 use Rattle.image.proofs.Ranged.{within-up-to, up-to-within}
+use Rattle.image.proofs.Strung.{tops-length}
 use Rattle.image.proofs.Keeping.{tests-keep, keeps-tests}
 
 -- ---- Two tests, of which the first that fails gives 10 or 11
@@ -76,8 +77,7 @@ module _ (image : List ℕ) where
       record { long = eqb→eq (length image) size (parts .0); ranges = within-up-to tops (itemsIn image) (parts .1) }
 
   pub in-range-within : InRange image → T (within tops (itemsIn image))
-  unfolding tops sensorTops coreTops
-  in-range-within h = up-to-within tops (itemsIn image) (omega (arith, items-length image, h .long)) (h .ranges)
+  in-range-within h = up-to-within tops (itemsIn image) (omega (arith, items-length image, tops-length, h .long)) (h .ranges)
 
   in-range-fits : InRange image → T (fits image)
   unfolding fits

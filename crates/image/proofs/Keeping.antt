@@ -11,11 +11,11 @@ use Rattle.sequence.specs.declared.Doors.{Doors}
 use Rattle.sequence.specs.declared.Doors.the-variants.{Closed, Opening, Open, Closing}
 use Rattle.orders.specs.declared.Wanted.{Wanted}
 use Rattle.orders.specs.Timing.{wantedOf}
-use Rattle.sequence.specs.Places.{areClosed, areOpen, movingHaveOpen}
+use Rattle.sequence.specs.Places.{areClosed, areOpen}
 use Rattle.controller.specs.declared.State.{State}
 use Rattle.controller.specs.Start.{startedAt}
 use Rattle.controller.specs.Stages.{anomaly}
-use Rattle.controller.specs.Shows.{generalEV, closeEV, openEV, retractEV, extendEV, doorsOf, gearsMove, red, invalidSensor}
+use Rattle.controller.specs.Shows.{generalEV, closeEV, openEV, retractEV, extendEV, doorsOf, red, invalidSensor}
 use Rattle.image.specs.Rules.{implies, rules, every, rulesHold}
 use Rattle.image.specs.Conditions.{OpenDoorsHaveGeneral, KeepsRules}
 
@@ -101,7 +101,7 @@ on-both on wanted general w g = so-implies on (wanted && general) (λ o. yes-and
 module _ (s : State) where
   -- Where every test holds the rules are kept ..
   pub tests-keep : T (rulesHold s) → KeepsRules s
-  unfolding rulesHold rules AllHold movingHaveOpen
+  unfolding rulesHold rules AllHold
   tests-keep h =
       let test = all-hold (rules s) h in
       let wanted : Wanted = wantedOf (s .core .place) (red s) in
@@ -112,7 +112,7 @@ module _ (s : State) where
       let extending = test .1 .1 .1 .1 .0 in
       let out : Bool = not (areClosed (doorsOf s)) in
       record {
-        movingHaveOpen = λ m. are-open (doorsOf s) (then (gearsMove s) (areOpen (doorsOf s)) (test .0) m);
+        movingHaveOpen = test .0;
         onIsWanted = (
           on-wanted (closeEV s) (wanted .closes) general closing,
           on-wanted (openEV s) (wanted .opens) general opening,
@@ -134,21 +134,20 @@ module _ (s : State) where
 
   -- .. and where they are kept every test holds.
   pub keeps-tests : KeepsRules s → T (rulesHold s)
-  unfolding rulesHold rules AllHold movingHaveOpen
+  unfolding rulesHold rules AllHold
   keeps-tests keeps =
       let wanted : Wanted = wantedOf (s .core .place) (red s) in
       let general : Bool = generalEV s in
       let is = keeps .onIsWanted in
       let has = keeps .onHasGeneral in
       let out : Bool = not (areClosed (doorsOf s)) in
-      let moving = so-implies (gearsMove s) (areOpen (doorsOf s)) (λ m. rw (keeps .movingHaveOpen m) tt) in
       let closing = on-both (closeEV s) (wanted .closes) general (is .0) (has .0) in
       let opening = on-both (openEV s) (wanted .opens) general (is .1) (has .1) in
       let retracting = on-both (retractEV s) (wanted .retracts) general (is .2) (has .2) in
       let extending = on-both (extendEV s) (wanted .extends) general (is .3) (has .3) in
       let outside = so-implies (out && not (red s)) general (out-general s (keeps .openHaveGeneral)) in
       let invalid = so-implies (invalidSensor s) (red s) (λ i. has-red s (keeps .invalidHasCause i)) in
-      hold-all (rules s) (moving, (closing, (opening, (retracting, (extending, (outside, (invalid, tt)))))))
+      hold-all (rules s) (keeps .movingHaveOpen, (closing, (opening, (retracting, (extending, (outside, (invalid, tt)))))))
 
 -- ---- The stamp
 

@@ -1,7 +1,8 @@
 pub mod Reading
 pub mod Fours
 pub mod Ranged
-pub mod Sensors
+pub mod Strung
+pub mod Filling
 pub mod Pieces
 pub mod Loading
 pub mod Mirrors

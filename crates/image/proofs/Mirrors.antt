@@ -1,83 +1,91 @@
--- Items and controllers: each gives the other. Of the voter and of doors and gears only the laws of their numbers are used.
+-- Items and controllers: each gives the other. Of the voter and of doors and gears only the laws that they promise are used.
 -- Assumes nothing.
-use Prim.Native.Nat.{ℕ, zero, suc, _+_, _*_, _-_, _^_, _≤_}
+use Prim.Native.Nat.{ℕ, zero, suc, _+_, _*_, _-_, _^_}
 use native.Mathlib.Omega.{arith}
-use mathlib.Core.Bool.{Bool, true, false, _&&_}
-use mathlib.Core.List.{List, [], _∷_, _++_}
-use mathlib.Core.Path.{_≡_, refl, sym, _∙_, ap}
-use lib.Dec.{T, leb, leb→le, lit<}
+use mathlib.Core.List.{List, [], _∷_, _++_, append-assoc}
+use mathlib.Core.Path.{_≡_, refl, sym, subst, _∙_, ap}
+use lib.Dec.{T, leb, lit<}
 use lib.ListN.{length, take, drop, take-append-drop, drop-of-length-le}
-use lib.Seq.{take-at, drop-at, drop-cons}
+use lib.Seq.{take-at, drop-at, drop-cons, drop-drop}
 use mir.Facts.{and-yes}
-use Rattle.common.specs.Bits.{bit}
 use Rattle.voter.specs.declared.Voter.{Voter}
-use Rattle.voter.specs.Voting.{valueOf}
-use Rattle.voter.specs.Numbers.{lastNumber as lastVoter}
-use Rattle.voter.proofs.Numbering.{numbered-number, number-numbered, value-numbered}
+use Rattle.voter.specs.Items.{itemsPerSensor, sensorItems, sensorTops, sensorIn}
+use Rattle.voter.proofs.Mirrors.{one-of-bit, bit-of-one, items-in-range, sensor-mirror, items-mirror as sensor-items-mirror}
 use Rattle.sequence.proofs.Numbering.{doors-at-number, gears-at-number, number-at-doors, number-at-gears}
 use Rattle.controller.specs.declared.Core.{Core}
 use Rattle.controller.specs.declared.State.{State}
 use Rattle.controller.specs.Start.{startedAt}
-use Rattle.image.specs.Items.{sensorItems, orderItems, ordersItems, restItems, coreItems, itemsOf, sensorTops, coreTops, tops, within, sensorsIn, itemAt, coreIn, stateIn}
-use Rattle.common.specs.Bits.{isOne}
+use Rattle.image.specs.Items.{
+  sensorCount,
+  sensorWidth,
+  firstOrder,
+  coreWidth,
+  sensorsItems,
+  orderItems,
+  ordersItems,
+  restItems,
+  coreItems,
+  itemsOf,
+  sensorsTops,
+  coreTops,
+  tops,
+  within,
+  sensorsIn,
+  itemAt,
+  coreIn,
+  stateIn,
+}
 use Rattle.image.proofs.Ranged.{UpTo, within-length, within-up-to, within-parts}
-
--- ---- A truth value
-
-one-of-bit : (b : Bool) → isOne (bit b) ≡ b
-one-of-bit true = refl
-one-of-bit false = refl
-
-bit-of-one : (n : ℕ) → n ≤ 1 → bit (isOne n) ≡ n
-bit-of-one zero h = refl
-bit-of-one (suc zero) h = refl
-bit-of-one (suc (suc n)) h = absurd (omega arith)
+use Rattle.image.proofs.Strung.{sensors-items-length}
 
 -- ---- From a controller and back
 
--- Two items for each sensor.
-pub sensor-items-length : (voters : List Voter) → length (sensorItems voters) ≡ 2 * length voters
-unfolding sensorItems
-sensor-items-length [] = refl
-sensor-items-length (v ∷ voters) = omega (arith, sensor-items-length voters)
-
-sensors-back : (voters : List Voter) → sensorsIn (sensorItems voters) ≡ voters
-unfolding sensorItems sensorsIn
-sensors-back [] = refl
-sensors-back (v ∷ voters) = rw (one-of-bit (valueOf v), numbered-number v, sensors-back voters)
+sensors-back : (voters : List Voter) (rest : List ℕ) → sensorsIn (length voters) (sensorsItems voters ++ rest) ≡ voters
+unfolding sensorsItems sensorsIn
+sensors-back [] rest = refl
+sensors-back (v ∷ voters) rest =
+    let others : List ℕ = sensorsItems voters ++ rest in
+    let long = items-in-range v .long in
+    rw (append-assoc (sensorItems v) (sensorsItems voters) rest, take-at (sensorItems v) others itemsPerSensor long, drop-at (sensorItems v) others itemsPerSensor long, sensor-mirror v, sensors-back voters rest)
 
 core-back : (c : Core) → coreIn (coreItems c) ≡ c
-unfolding coreIn coreItems ordersItems orderItems restItems
+unfolding coreItems ordersItems orderItems restItems
 core-back c = simp (one-of-bit, doors-at-number, gears-at-number)
 
 -- The items of a controller are of that controller, at the new start stamp.
-pub controller-back : (stamp : ℕ) (s : State) → length (s .voters) ≡ 18 → stateIn stamp (itemsOf s) ≡ startedAt stamp s
+pub controller-back : (stamp : ℕ) (s : State) → length (s .voters) ≡ sensorCount → stateIn stamp (itemsOf s) ≡ startedAt stamp s
 unfolding stateIn itemsOf startedAt
-controller-back stamp s eighteen =
-    let long : length (sensorItems (s .voters)) ≡ 36 = omega (arith, sensor-items-length (s .voters)) in
-    rw (
-      take-at (sensorItems (s .voters)) (coreItems (s .core)) 36 long,
-      drop-at (sensorItems (s .voters)) (coreItems (s .core)) 36 long,
-      sensors-back (s .voters),
-      core-back (s .core),
-    )
+controller-back stamp s all =
+    let core : List ℕ = coreItems (s .core) in
+    let long : length (sensorsItems (s .voters)) ≡ sensorWidth = omega (arith, sensors-items-length (s .voters)) in
+    let voters : sensorsIn sensorCount (sensorsItems (s .voters) ++ core) ≡ s .voters =
+    subst (λ (n : ℕ). sensorsIn n (sensorsItems (s .voters) ++ core) ≡ s .voters) all (sensors-back (s .voters) core)
+    in
+    rw (voters, drop-at (sensorsItems (s .voters)) core sensorWidth long, core-back (s .core))
 
 -- ---- From items and back
 
-sensors-mirror : (sensors : ℕ) (items : List ℕ) → T (within (sensorTops sensors) items) → sensorItems (sensorsIn items) ≡ items
-unfolding sensorTops within sensorsIn sensorItems
-sensors-mirror zero [] h = refl
-sensors-mirror zero (voter ∷ items) h = absurd h
-sensors-mirror (suc sensors) [] h = absurd h
-sensors-mirror (suc sensors) (voter ∷ []) h = absurd (and-yes (leb voter lastVoter) false h .1)
-sensors-mirror (suc sensors) (voter ∷ held ∷ items) h =
-    let parts = and-yes (leb voter lastVoter) (leb held 1 && within (sensorTops sensors) items) h in
-    let more = and-yes (leb held 1) (within (sensorTops sensors) items) (parts .1) in
-    rw (
-      number-numbered voter (isOne held) (leb→le voter lastVoter (parts .0)),
-      value-numbered voter (isOne held),
-      bit-of-one held (leb→le held 1 (more .0)),
-      sensors-mirror sensors items (more .1),
+-- So many sensors that items in their ranges are of have those items, and what stands behind them is in its ranges.
+sensors-mirror : (sensors : ℕ) (rest items : List ℕ) → T (within (sensorsTops sensors ++ rest) items)
+    → (sensorsItems (sensorsIn sensors items) ++ drop (itemsPerSensor * sensors) items ≡ items) ×
+    T (within rest (drop (itemsPerSensor * sensors) items))
+unfolding sensorsTops sensorsIn sensorsItems
+sensors-mirror zero rest items h = (refl, h)
+sensors-mirror (suc sensors) rest items h =
+    let parts = within-parts sensorTops (sensorsTops sensors ++ rest) items (rw append-assoc at h) in
+    let one : List ℕ = take itemsPerSensor items in
+    let others : List ℕ = drop itemsPerSensor items in
+    let more = sensors-mirror sensors rest others (parts .1) in
+    let own : sensorItems (sensorIn one) ≡ one =
+    sensor-items-mirror one (record { long = within-length sensorTops one (parts .0); ranges = within-up-to sensorTops one (parts .0) })
+    in
+    let place : itemsPerSensor + itemsPerSensor * sensors ≡ itemsPerSensor * suc sensors = omega arith in
+    let behind : drop (itemsPerSensor * suc sensors) items ≡ drop (itemsPerSensor * sensors) others =
+    ap (λ (n : ℕ). drop n items) (sym place) ∙ sym (drop-drop (itemsPerSensor * sensors) itemsPerSensor items)
+    in (
+      rw (own, behind, append-assoc one (sensorsItems (sensorsIn sensors others)) (drop (itemsPerSensor * sensors) others), more .0)
+          (take-append-drop itemsPerSensor items),
+      rw behind (more .1),
     )
 
 -- So many items from a place on.
@@ -92,7 +100,7 @@ each-item (suc n) k items e =
     drop-cons items k 0 (omega arith) ∙ ap (λ (rest : List ℕ). itemAt items k ∷ rest) (each-item n (suc k) items (omega arith))
 
 core-mirror : (items : List ℕ) → T (within coreTops items) → coreItems (coreIn items) ≡ items
-unfolding coreIn coreItems ordersItems orderItems restItems coreTops itemsFrom
+unfolding coreItems ordersItems orderItems restItems coreTops itemsFrom
 core-mirror items h =
     let upTo : UpTo coreTops items = within-up-to coreTops items h in
     rw (
@@ -104,42 +112,18 @@ core-mirror items h =
       number-at-doors (itemAt items 11) (upTo 11 (lit< tt)),
       number-at-gears (itemAt items 12) (upTo 12 (lit< tt)),
     )
-    (sym (each-item 14 0 items (within-length coreTops items h)))
+    (sym (each-item coreWidth 0 items (within-length coreTops items h)))
 
-sensor-tops-length : (sensors : ℕ) → length (sensorTops sensors) ≡ 2 * sensors
-unfolding sensorTops
-sensor-tops-length zero = refl
-sensor-tops-length (suc sensors) = omega (arith, sensor-tops-length sensors)
-
--- The items of the sensors, and those of the core, in their ranges.
-pub parts-within :
-    (items : List ℕ) →
-    T (within tops items) →
-    T (within (sensorTops 18) (take 36 (drop 1 items))) × T (within coreTops (drop 37 items))
+-- The items of the core, in their ranges.
+pub core-within : (items : List ℕ) → T (within tops items) → T (within coreTops (drop firstOrder items))
 unfolding tops within
-parts-within [] h = absurd h
-parts-within (stamp ∷ items) h =
-    let rest = and-yes (leb stamp (2 ^ 32 - 1)) (within (sensorTops 18 ++ coreTops) items) h .1 in
-    rw sensor-tops-length at (within-parts (sensorTops 18) coreTops items rest)
+core-within [] h = absurd h
+core-within (stamp ∷ items) h = sensors-mirror sensorCount coreTops items (and-yes (leb stamp (2 ^ 32 - 1)) _ h .1) .1
 
--- The controller that items in their ranges are of has those items, and its own stamp ..
+-- The controller that items in their ranges are of has those items, and its own stamp.
 pub items-mirror : (stamp : ℕ) (items : List ℕ) → T (within tops items) → itemsOf (stateIn stamp items) ≡ stamp ∷ drop 1 items
 unfolding stateIn itemsOf tops within
 items-mirror stamp [] h = absurd h
 items-mirror stamp (own ∷ items) h =
-    let parts = parts-within (own ∷ items) h in
-    rw (sensors-mirror 18 (take 36 items) (parts .0), core-mirror (drop 36 items) (parts .1), take-append-drop 36 items)
-
--- .. and eighteen sensors.
-pub eighteen-sensors : (stamp : ℕ) (items : List ℕ) → T (within tops items) → length (stateIn stamp items .voters) ≡ 18
-unfolding stateIn
-eighteen-sensors stamp items h =
-    let sensors = parts-within items h .0 in
-    let voters : List Voter = sensorsIn (take 36 (drop 1 items)) in
-    omega (
-      arith,
-      sensor-items-length voters,
-      ap length (sensors-mirror 18 (take 36 (drop 1 items)) sensors),
-      within-length (sensorTops 18) (take 36 (drop 1 items)) sensors,
-      sensor-tops-length 18,
-    )
+    let parts = sensors-mirror sensorCount coreTops items (and-yes (leb own (2 ^ 32 - 1)) _ h .1) in
+    rw (core-mirror (drop sensorWidth items) (parts .1), parts .0)

@@ -3,18 +3,17 @@
 -- Assumes nothing.
 use Prim.Native.Nat.{ℕ, zero, suc, _-_, _%_, _^_, _≤_, _<_}
 use native.Mathlib.Omega.{arith}
-use mathlib.Core.Bool.{Bool, true, false, _&&_}
+use mathlib.Core.Bool.{Bool, _&&_}
 use mathlib.Core.List.{List, [], _∷_, _++_, map}
 use mathlib.Core.Path.{_≡_, sym, _∙_, ap}
-use lib.Dec.{T, leb, ltb, ltb→lt, le→leb, lit≤, lit<}
-use lib.ListN.{length, drop, length-append}
+use lib.Dec.{T, leb, ltb, ltb→lt, le→leb, lit<}
+use lib.ListN.{length, drop}
 use lib.Seq.{drop-cons}
 use mir.Facts.{and-yes, yes-and}
 use Rattle.common.specs.Bits.{bit}
 use Rattle.voter.specs.declared.Voter.{Voter}
-use Rattle.voter.specs.Voting.{valueOf}
-use Rattle.voter.specs.Numbers.{numberOf, lastNumber as lastVoter}
-use Rattle.voter.proofs.Numbering.{number-to-4}
+use Rattle.voter.specs.Items.{sensorItems, sensorTops}
+use Rattle.voter.proofs.Mirrors.{bit-to-1, items-in-range}
 use Rattle.sequence.specs.Numbers.{doorsNumber, gearsNumber, lastNumber as lastPlace}
 use Rattle.sequence.proofs.Numbering.{doors-to-3, gears-to-3}
 use Rattle.orders.specs.declared.Order.{Order}
@@ -24,32 +23,48 @@ use Rattle.controller.specs.declared.State.{State}
 use Rattle.controller.specs.declared.Answer.{Answer}
 use Rattle.controller.specs.Start.{startedAt}
 use Rattle.image.specs.Xdr.{fourBytes, bytesOf, itemsIn}
-use Rattle.image.specs.Items.{sensorItems, orderItems, ordersItems, restItems, coreItems, itemsOf, sensorTops, lastCause, coreTops, tops, within, itemAt, coreIn, stateIn}
+use Rattle.image.specs.Items.{
+  sensorCount,
+  firstOrder,
+  itemCount,
+  sensorsItems,
+  orderItems,
+  ordersItems,
+  restItems,
+  coreItems,
+  itemsOf,
+  sensorsTops,
+  lastCause,
+  coreTops,
+  tops,
+  within,
+  itemAt,
+  stateIn,
+}
 use Rattle.orders.specs.Timing.{oldest}
 use Rattle.image.specs.Rules.{every}
 use Rattle.image.specs.Images.{size, imageOf, loadedAt, loadOf}
 use Rattle.image.specs.Conditions.{AgesTo60000, CausesTo13, Allowed, AllBelow, AllBytes, Taken}
 use Rattle.image.proofs.Fours.{items-back, each-below, bytes-back, bytes-of-rest, bytes-length, items-length}
-use Rattle.image.proofs.Ranged.{UpTo, within-length, within-up-to, within-joined}
-use Rattle.image.proofs.Mirrors.{sensor-items-length, controller-back, parts-within, items-mirror, eighteen-sensors}
+use Rattle.image.proofs.Ranged.{UpTo, within-length, within-up-to, up-to-within, within-joined}
+use Rattle.image.proofs.Mirrors.{controller-back, core-within as core-items-within, items-mirror}
+use Rattle.image.proofs.Strung.{items-of-length, sensors-length}
 use Rattle.image.proofs.Keeping.{started-keeps}
 use Rattle.image.proofs.Exact.{in-range-within, taken-is-loaded}
 
 -- ---- The items of an allowed controller are in their ranges
 
-bit-to-1 : (b : Bool) → bit b ≤ 1
-bit-to-1 true = lit≤ tt
-bit-to-1 false = lit≤ tt
-
 -- One item in its range, and the rest in theirs.
 and-next : (item top : ℕ) (rest : Bool) → item ≤ top → T rest → T (leb item top && rest)
 and-next item top rest h more = yes-and (leb item top) rest (le→leb item top h) more
 
-sensors-within : (voters : List Voter) → T (within (sensorTops (length voters)) (sensorItems voters))
-unfolding sensorTops sensorItems within
+sensors-within : (voters : List Voter) → T (within (sensorsTops (length voters)) (sensorsItems voters))
+unfolding sensorsTops sensorsItems within
 sensors-within [] = tt
 sensors-within (v ∷ voters) =
-    and-next (numberOf v) lastVoter _ (number-to-4 v) (and-next (bit (valueOf v)) 1 _ (bit-to-1 (valueOf v)) (sensors-within voters))
+    let own = items-in-range v in
+    within-joined sensorTops (sensorsTops (length voters)) (sensorItems v) (sensorsItems voters)
+    (up-to-within sensorTops (sensorItems v) (own .long) (own .ranges)) (sensors-within voters)
 
 order-within : (o : Order) → o .age ≤ oldest → T (within (1 ∷ oldest ∷ []) (orderItems o))
 unfolding orderItems within
@@ -82,9 +97,9 @@ core-within s aged caused =
     (rest-within (s .core) (aged .5) caused)
 
 module _ (s : State) (allowed : Allowed s) where
-  after-stamp : T (within (sensorTops 18 ++ coreTops) (sensorItems (s .voters) ++ coreItems (s .core)))
+  after-stamp : T (within (sensorsTops sensorCount ++ coreTops) (sensorsItems (s .voters) ++ coreItems (s .core)))
   after-stamp =
-      within-joined (sensorTops 18) coreTops (sensorItems (s .voters)) (coreItems (s .core))
+      within-joined (sensorsTops sensorCount) coreTops (sensorsItems (s .voters)) (coreItems (s .core))
       (rw (allowed .sensors) at (sensors-within (s .voters)))
       (core-within s (allowed .ages) (allowed .causes))
 
@@ -100,9 +115,9 @@ all-below top (n ∷ numbers) h zero less = ltb→lt n top (and-yes (ltb n top) 
 all-below top (n ∷ numbers) h (suc k) less =
     all-below top numbers (and-yes (ltb n top) _ h .1) k (omega arith)
 
-tops-below : AllBelow (2 ^ 32) (sensorTops 18 ++ coreTops)
-unfolding sensorTops coreTops
-tops-below = all-below (2 ^ 32) (sensorTops 18 ++ coreTops) tt
+tops-below : AllBelow (2 ^ 32) (sensorsTops sensorCount ++ coreTops)
+unfolding sensorsTops coreTops
+tops-below = all-below (2 ^ 32) (sensorsTops sensorCount ++ coreTops) tt
 
 within-below : (tops items : List ℕ) → AllBelow (2 ^ 32) tops → T (within tops items) → AllBelow (2 ^ 32) items
 within-below tops items below h k less =
@@ -115,21 +130,15 @@ module _ (s : State) (allowed : Allowed s) where
   read-back =
       items-back (itemsOf s) ∙
       ap (λ (rest : List ℕ). s .stamp % 2 ^ 32 ∷ rest)
-      (each-below (sensorItems (s .voters) ++ coreItems (s .core))
-      (within-below (sensorTops 18 ++ coreTops) (sensorItems (s .voters) ++ coreItems (s .core)) tops-below (after-stamp s allowed)))
+      (each-below (sensorsItems (s .voters) ++ coreItems (s .core))
+      (within-below (sensorsTops sensorCount ++ coreTops) (sensorsItems (s .voters) ++ coreItems (s .core)) tops-below (after-stamp s allowed)))
 
 -- ---- Saving, then loading
 
--- 51 items, 204 bytes.
-pub image-length : (s : State) → length (s .voters) ≡ 18 → length (imageOf s) ≡ size
-unfolding imageOf itemsOf coreItems ordersItems orderItems restItems
-image-length s eighteen =
-    omega (
-      arith,
-      bytes-length (itemsOf s),
-      length-append (sensorItems (s .voters)) (coreItems (s .core)),
-      sensor-items-length (s .voters),
-    )
+-- Every image is as long as is said.
+pub image-length : (s : State) → length (s .voters) ≡ sensorCount → length (imageOf s) ≡ size
+unfolding imageOf
+image-length s all = omega (arith, bytes-length (itemsOf s), items-of-length s all)
 
 module _ (s : State) (allowed : Allowed s) where
   -- The image of a controller is of that controller, at the new start stamp.
@@ -165,15 +174,15 @@ module _ (image : List ℕ) (taken : Taken image) where
   items-within : T (within tops (itemsIn image))
   items-within = in-range-within image (taken .inRange)
 
-  core-up-to : UpTo coreTops (drop 37 (itemsIn image))
-  core-up-to = within-up-to coreTops (drop 37 (itemsIn image)) (parts-within (itemsIn image) items-within .1)
+  core-up-to : UpTo coreTops (drop firstOrder (itemsIn image))
+  core-up-to = within-up-to coreTops (drop firstOrder (itemsIn image)) (core-items-within (itemsIn image) items-within)
 
   -- An image that is taken loads as an allowed controller.
   pub taken-is-allowed : (stamp : ℕ) → Allowed (loadedAt stamp image)
-  unfolding loadedAt stateIn coreIn coreTops startedAt
+  unfolding loadedAt stateIn coreTops startedAt
   taken-is-allowed stamp =
       record {
-        sensors = eighteen-sensors stamp (itemsIn image) items-within;
+        sensors = sensors-length sensorCount (drop 1 (itemsIn image));
         ages = (
           core-up-to 1 (lit< tt),
           core-up-to 3 (lit< tt),
@@ -192,7 +201,7 @@ module _ (image : List ℕ) (taken : Taken image) where
   loaded-then-saved bytes stamp =
       ap bytesOf (items-mirror stamp (itemsIn image) items-within) ∙
       ap (λ (rest : List ℕ). fourBytes stamp ++ rest)
-      (bytes-of-rest (itemsIn image) ∙ ap (drop 4) (bytes-back image 51 (taken .inRange .long) bytes))
+      (bytes-of-rest (itemsIn image) ∙ ap (drop 4) (bytes-back image itemCount (taken .inRange .long) bytes))
 
   -- .. and the very same image at the image's own stamp.
   pub loaded-then-saved-at-its-own : AllBytes image → imageOf (loadedAt (itemAt (itemsIn image) 0) image) ≡ image
@@ -201,4 +210,4 @@ module _ (image : List ℕ) (taken : Taken image) where
       ap bytesOf
       (items-mirror (itemAt (itemsIn image) 0) (itemsIn image) items-within ∙
       sym (drop-cons (itemsIn image) 0 0 (omega (arith, items-length image, taken .inRange .long)))) ∙
-      bytes-back image 51 (taken .inRange .long) bytes
+      bytes-back image itemCount (taken .inRange .long) bytes

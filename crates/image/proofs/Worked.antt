@@ -2,24 +2,24 @@
 -- Assumes nothing.
 use mathlib.Core.Path.{refl}
 use Rattle.common.specs.Case.{AllAsWanted}
-use Rattle.voter.specs.Numbers.{numberOf, channelsAt, numbered}
+use Rattle.voter.specs.Numbers.{numberOf, channelsAt}
+use Rattle.voter.specs.Items.{sensorItems, sensorIn}
 use Rattle.sequence.specs.Numbers.{doorsAt, gearsAt}
 use Rattle.controller.proofs.Computing.{rules as stepRules}
 use Rattle.sequence.specs.Places.{movingHaveOpen}
 use Rattle.image.specs.Xdr.{fourBytes, itemFrom, bytesOf, itemsIn}
 use Rattle.image.specs.Items.{
-  sensorItems,
+  sensorsItems,
   orderItems,
   ordersItems,
   restItems,
   coreItems,
   itemsOf,
-  sensorTops,
+  sensorsTops,
   coreTops,
   tops,
   within,
   sensorsIn,
-  coreIn,
   stateIn,
 }
 use Rattle.image.specs.Rules.{rules, rulesHold}
@@ -29,10 +29,10 @@ use Rattle.image.specs.Cases.{fresh, opening, extending, imageCases}
 pub as-worked : AllAsWanted imageCases
 unfolding
     stepRules
-    numberOf channelsAt numbered doorsAt gearsAt
+    numberOf channelsAt sensorItems sensorIn doorsAt gearsAt
     fourBytes itemFrom bytesOf itemsIn
-    sensorItems orderItems ordersItems restItems coreItems itemsOf
-    sensorTops coreTops tops within sensorsIn coreIn stateIn
+    sensorsItems orderItems ordersItems restItems coreItems itemsOf
+    sensorsTops coreTops tops within sensorsIn stateIn
     rules rulesHold movingHaveOpen
     imageOf fits loadedAt refusalOf
     fresh opening extending imageCases

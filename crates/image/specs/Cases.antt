@@ -8,44 +8,46 @@ use lib.ListN.{length, take, drop, set}
 use Rattle.common.specs.Case.{Case}
 use Rattle.controller.specs.Votes.{analogicalSwitch, circuitPressurized}
 use Rattle.controller.specs.Start.{freshOf}
+use Rattle.voter.specs.Items.{itemsPerSensor}
 use Rattle.image.specs.Xdr.{bytesOf, itemsIn}
+use Rattle.image.specs.Items.{firstOrder}
 use Rattle.image.specs.Images.{imageOf, refusalOf}
 
 -- ---- Items by their places, counted from 0
 
 abbrev pub voterOf : ℕ → ℕ
-voterOf sensor = 1 + 2 * sensor
+voterOf sensor = 1 + itemsPerSensor * sensor
 
 abbrev pub heldOf : ℕ → ℕ
-heldOf sensor = 2 + 2 * sensor
+heldOf sensor = 2 + itemsPerSensor * sensor
 
 -- Whether each order is on; its age stands next.
 abbrev pub generalOn : ℕ
-generalOn = 37
+generalOn = firstOrder
 
 abbrev pub closeOn : ℕ
-closeOn = 39
+closeOn = firstOrder + 2
 
 abbrev pub openOn : ℕ
-openOn = 41
+openOn = firstOrder + 4
 
 abbrev pub extendOn : ℕ
-extendOn = 45
+extendOn = firstOrder + 8
 
 abbrev pub extendAge : ℕ
-extendAge = 46
+extendAge = firstOrder + 9
 
 abbrev pub handleAge : ℕ
-handleAge = 47
+handleAge = firstOrder + 10
 
 abbrev pub doors : ℕ
-doors = 48
+doors = firstOrder + 11
 
 abbrev pub gears : ℕ
-gears = 49
+gears = firstOrder + 12
 
 abbrev pub cause : ℕ
-cause = 50
+cause = firstOrder + 13
 
 -- Items with another at a place.
 abbrev pub with : ℕ → ℕ → List ℕ → List ℕ
@@ -124,10 +126,10 @@ imageCases =
     gives "doors of 4" (with doors 4 fresh) 10 ∷
     gives "gears of 4" (with gears 4 fresh) 10 ∷
     gives "cause 14" (with cause 14 fresh) 10 ∷
-    gives "50 items" (drop 1 fresh) 10 ∷
-    gives "52 items" (fresh ++ 0 ∷ []) 10 ∷
-    record { name = "203 bytes"; gives = refusalOf (drop 1 (bytesOf fresh)) ∷ []; wanted = 10 ∷ [] } ∷
-    record { name = "205 bytes"; gives = refusalOf (bytesOf fresh ++ 0 ∷ []) ∷ []; wanted = 10 ∷ [] } ∷
+    gives "an item short" (drop 1 fresh) 10 ∷
+    gives "an item more" (fresh ++ 0 ∷ []) 10 ∷
+    record { name = "a byte short"; gives = refusalOf (drop 1 (bytesOf fresh)) ∷ []; wanted = 10 ∷ [] } ∷
+    record { name = "a byte more"; gives = refusalOf (bytesOf fresh ++ 0 ∷ []) ∷ []; wanted = 10 ∷ [] } ∷
     -- 10 before 11
     gives "gears EXTENDING with doors CLOSED, and a cause of 14" (with gears 1 (with cause 14 fresh)) 10 ∷
     []

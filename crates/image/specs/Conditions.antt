@@ -7,8 +7,9 @@ use mathlib.Core.Path.{_≡_}
 use Prim.Native.Nat.{ℕ, _≤_, _<_}
 use lib.Dec.{T}
 use lib.ListN.{length}
-use Rattle.sequence.specs.declared.Doors.the-variants.{Closed, Open}
-use Rattle.orders.specs.Timing.{wantedOf}
+use Rattle.sequence.specs.declared.Doors.the-variants.{Closed}
+use Rattle.sequence.specs.Places.{movingHaveOpen}
+use Rattle.orders.specs.Timing.{oldest, wantedOf}
 use Rattle.controller.specs.declared.State.{State}
 use Rattle.controller.specs.Shows.{
   generalEV,
@@ -17,20 +18,18 @@ use Rattle.controller.specs.Shows.{
   retractEV,
   extendEV,
   doorsOf,
-  gearsMove,
   red,
   invalidSensor,
 }
 use Rattle.image.specs.Xdr.{itemsIn}
-use Rattle.image.specs.Items.{lastCause, tops, itemAt}
-use Rattle.orders.specs.Timing.{oldest}
+use Rattle.image.specs.Items.{sensorCount, lastCause, tops, itemAt}
 use Rattle.image.specs.Images.{size, loadedAt}
 
 -- ---- Of the controller
 
 -- Moving gears have doors OPEN.
 abbrev pub MovingGearsHaveDoorsOpen : State → Type 0
-MovingGearsHaveDoorsOpen s = T (gearsMove s) → doorsOf s ≡ Open
+MovingGearsHaveDoorsOpen s = T (movingHaveOpen (s .core .place))
 
 -- Any of the four orders that is on is wanted ..
 abbrev pub OnIsWanted : State → Type 0
@@ -80,7 +79,7 @@ CausesTo13 s = s .core .cause ≤ lastCause
 
 -- A controller whose image is taken: the eighteen sensors, ages and cause in range, and the rules.
 pub record Allowed (s : State) : Type 0 where
-  pub sensors : length (s .voters) ≡ 18
+  pub sensors : length (s .voters) ≡ sensorCount
   pub ages : AgesTo60000 s
   pub causes : CausesTo13 s
   pub rules : KeepsRules s
@@ -95,7 +94,7 @@ AllBelow top numbers = (k : ℕ) → k < length numbers → itemAt numbers k < t
 abbrev pub AllBytes : List ℕ → Type 0
 AllBytes = AllBelow 256
 
--- 51 items of four bytes each, and every item is in range.
+-- As long as an image is, and every item is in range.
 pub record InRange (image : List ℕ) : Type 0 where
   pub long : length image ≡ size
   pub ranges : (k : ℕ) → k < length tops → itemAt (itemsIn image) k ≤ itemAt tops k

@@ -1,6 +1,6 @@
 -- Request K3: saving and loading, with the refusals 8, 10 and 11.
 -- Assumes nothing.
-use Prim.Native.Nat.{ℕ}
+use Prim.Native.Nat.{ℕ, _*_}
 use mathlib.Core.Bool.{Bool, false, cond, not}
 use mathlib.Core.List.{List, [], _∷_, _++_}
 use lib.Dec.{eqb, ltb}
@@ -9,12 +9,12 @@ use Rattle.common.specs.Lowest.{lowest}
 use Rattle.controller.specs.declared.State.{State}
 use Rattle.controller.specs.declared.Answer.{Answer}
 use Rattle.image.specs.Xdr.{bytesOf, itemsIn}
-use Rattle.image.specs.Items.{itemsOf, tops, within, stateIn}
+use Rattle.image.specs.Items.{itemCount, itemsOf, tops, within, stateIn}
 use Rattle.image.specs.Rules.{rulesHold}
 
--- 51 items, 204 bytes.
+-- Four bytes for each item: 204.
 abbrev pub size : ℕ
-size = 204
+size = 4 * itemCount
 
 -- The image of a controller.
 unfoldable pub imageOf : State → List ℕ
@@ -25,7 +25,7 @@ imageOf s = bytesOf (itemsOf s)
 unfoldable pub saveOf : State → List ℕ → ℕ × List ℕ
 saveOf s buffer = cond (ltb (length buffer) size) (8, buffer) (0, imageOf s ++ drop size buffer)
 
--- The length is 204, and every item is in its range.
+-- The length is an image's, and every item is in its range.
 unfoldable pub fits : List ℕ → Bool
 fits image = cond (eqb (length image) size) (within tops (itemsIn image)) false
 

@@ -1,14 +1,14 @@
--- Request K3: the controller as 51 items, and the controller that 51 items are of. Each is the mirror of the other.
+-- Request K3: the controller as items, and the controller that items are of. Each is the mirror of the other. What a sensor is as
+-- items is the voter's (`Rattle.voter.specs.Items`); here they are strung over the eighteen sensors.
 -- Assumes nothing.
-use Prim.Native.Nat.{ℕ, zero, suc, _-_, _^_}
+use Prim.Native.Nat.{ℕ, zero, suc, _+_, _*_, _-_, _^_}
 use mathlib.Core.Bool.{Bool, true, false, _&&_}
 use mathlib.Core.List.{List, [], _∷_, _++_}
 use lib.Dec.{leb}
 use lib.ListN.{getD, take, drop}
 use Rattle.common.specs.Bits.{bit, isOne}
 use Rattle.voter.specs.declared.Voter.{Voter}
-use Rattle.voter.specs.Voting.{valueOf}
-use Rattle.voter.specs.Numbers.{numberOf, numbered, lastNumber as lastVoter}
+use Rattle.voter.specs.Items.{itemsPerSensor, sensorItems, sensorTops, sensorIn}
 use Rattle.sequence.specs.Moves.{place}
 use Rattle.sequence.specs.Numbers.{doorsNumber, gearsNumber, doorsAt, gearsAt, lastNumber as lastPlace}
 use Rattle.orders.specs.declared.Order.{Order}
@@ -17,12 +17,38 @@ use Rattle.orders.specs.Timing.{order, oldest}
 use Rattle.controller.specs.declared.Core.{Core}
 use Rattle.controller.specs.declared.State.{State}
 
+-- ---- How many there are
+
+-- Sensors.
+abbrev pub sensorCount : ℕ
+sensorCount = 18
+
+-- Items of all sensors; they stand behind the last stamp.
+abbrev pub sensorWidth : ℕ
+sensorWidth = itemsPerSensor * sensorCount
+
+-- The place of the first order's items, counted from 0.
+abbrev pub firstOrder : ℕ
+firstOrder = 1 + sensorWidth
+
+-- Items of the five orders, on and age, and handle age, doors, gears, cause.
+abbrev pub coreWidth : ℕ
+coreWidth = 5 * 2 + 4
+
+-- Items in all: 51.
+abbrev pub itemCount : ℕ
+itemCount = firstOrder + coreWidth
+
 -- ---- The items of a controller
 
--- Per sensor its voter and held value.
-unfoldable pub sensorItems : List Voter → List ℕ
-sensorItems [] = []
-sensorItems (v ∷ vs) = numberOf v ∷ bit (valueOf v) ∷ sensorItems vs
+-- The controller that has these parts.
+abbrev pub stateOf : ℕ → List Voter → Core → State
+stateOf stamp voters core = record { stamp = stamp; voters = voters; core = core }
+
+-- One sensor after the other.
+unfoldable pub sensorsItems : List Voter → List ℕ
+sensorsItems [] = []
+sensorsItems (v ∷ vs) = sensorItems v ++ sensorsItems vs
 
 -- Per order on and age.
 unfoldable pub orderItems : Order → List ℕ
@@ -46,14 +72,14 @@ coreItems c = ordersItems (c .orders) ++ restItems c
 
 -- Last stamp; the sensors; the rest.
 unfoldable pub itemsOf : State → List ℕ
-itemsOf s = s .stamp ∷ (sensorItems (s .voters) ++ coreItems (s .core))
+itemsOf s = s .stamp ∷ (sensorsItems (s .voters) ++ coreItems (s .core))
 
 -- ---- The range of each item, from 0 to these
 
--- A voter, and a held value.
-unfoldable pub sensorTops : ℕ → List ℕ
-sensorTops zero = []
-sensorTops (suc sensors) = lastVoter ∷ 1 ∷ sensorTops sensors
+-- Of so many sensors.
+unfoldable pub sensorsTops : ℕ → List ℕ
+sensorsTops zero = []
+sensorsTops (suc sensors) = sensorTops ++ sensorsTops sensors
 
 abbrev pub lastCause : ℕ
 lastCause = 13
@@ -72,7 +98,7 @@ coreTops =
 
 -- The stamp may be any that 32 bits hold.
 unfoldable pub tops : List ℕ
-tops = (2 ^ 32 - 1) ∷ (sensorTops 18 ++ coreTops)
+tops = (2 ^ 32 - 1) ∷ (sensorsTops sensorCount ++ coreTops)
 
 -- There are as many items as ranges, and each is in its range.
 unfoldable pub within : List ℕ → List ℕ → Bool
@@ -83,18 +109,17 @@ within (top ∷ tops) (item ∷ items) = leb item top && within tops items
 
 -- ---- The controller that items are of
 
--- Two items for each sensor.
-unfoldable pub sensorsIn : List ℕ → List Voter
-sensorsIn [] = []
-sensorsIn (voter ∷ []) = []
-sensorsIn (voter ∷ held ∷ items) = numbered voter (isOne held) ∷ sensorsIn items
+-- So many sensors, one after the other.
+unfoldable pub sensorsIn : ℕ → List ℕ → List Voter
+sensorsIn zero items = []
+sensorsIn (suc sensors) items = sensorIn (take itemsPerSensor items) ∷ sensorsIn sensors (drop itemsPerSensor items)
 
 -- The item at a place, counted from 0.
 abbrev pub itemAt : List ℕ → ℕ → ℕ
 itemAt items k = getD items k 0
 
 -- Two items for each order, and four more.
-unfoldable pub coreIn : List ℕ → Core
+abbrev pub coreIn : List ℕ → Core
 coreIn items =
     record {
       orders =
@@ -112,4 +137,4 @@ coreIn items =
 
 -- Loading takes a new start stamp, and the image's own is left.
 unfoldable pub stateIn : ℕ → List ℕ → State
-stateIn stamp items = record { stamp = stamp; voters = sensorsIn (take 36 (drop 1 items)); core = coreIn (drop 37 items) }
+stateIn stamp items = stateOf stamp (sensorsIn sensorCount (drop 1 items)) (coreIn (drop firstOrder items))

@@ -1,4 +1,4 @@
-// The image of a controller (request K3): 51 items of RFC 4506, four bytes each, by which a lesson goes on at another laptop.
+// The image of a controller (request K3): items of RFC 4506, four bytes each, by which a lesson goes on at another laptop.
 // The rule is specs/: Xdr.antt (an item), Items.antt (the items of a controller, their ranges, and the controller that items are of),
 // Rules.antt (what an image must keep to), Images.antt (saving, loading and the refusals). specs/Conditions.antt says condition by
 // condition which images are taken, and proofs/Exact.antt that it is so exactly.
@@ -15,8 +15,18 @@ mod xdr;
 use controller::Answer;
 use controller::State;
 
-// An image has so many bytes.
-pub const SIZE: usize = 204;
+// An image has so many bytes: 204.
+pub const SIZE: usize = xdr::ITEM * ITEMS;
+
+// So many items: the last stamp, those of the sensors, on and age of five orders, and handle age, doors, gears, cause
+// (`itemCount`, `firstOrder`, `sensorCount`, `coreWidth` of specs/Items.antt).
+const ITEMS: usize = FIRST_ORDER + CORE;
+
+const FIRST_ORDER: usize = 1 + voter::ITEMS * SENSORS;
+
+const SENSORS: usize = 18;
+
+const CORE: usize = 14;
 
 // Saves a controller into a lent buffer: 0, or 8 where the buffer is shorter than an image.
 pub fn save(state: State, out: &mut [u8]) -> u8
@@ -25,7 +35,9 @@ pub fn save(state: State, out: &mut [u8]) -> u8
     if out.len() < SIZE {
         return 8;
     }
-    items::put_state(out, state);
+    let voters = state.voters;
+    let core = state.core;
+    items::put_state(out, state.stamp, voters, core);
     0
 }
 

@@ -3,63 +3,18 @@ ghost use mathlib.Core.Path.{_≡_};
 ghost use Prim.Native.Nat.{_<_};
 ghost use lib.ListN.{length};
 ghost use Rattle.image.specs.Xdr.{itemsIn};
-ghost use Rattle.image.specs.Items.{tops, within, itemAt};
-ghost use Rattle.image.specs.Images.{fits};
+ghost use Rattle.image.specs.Items.{itemCount, tops, within, itemAt};
+ghost use Rattle.image.specs.Images.{size, fits};
+use crate::CORE;
+use crate::FIRST_ORDER;
+use crate::ITEMS;
 use crate::SIZE;
 use crate::xdr;
 use orders::OLDEST;
+use voter::Voter;
 
-// There are so many items.
-const ITEMS: usize = 51;
-
-// Each item is at most this.
-const TOPS: [u32; 51] = [
-    // last stamp
-    4294967295,
-    // per sensor its voter and held value: handle, analogical_switch
-    4,
-    1,
-    4,
-    1,
-    // gear_extended front, left, right
-    4,
-    1,
-    4,
-    1,
-    4,
-    1,
-    // gear_retracted
-    4,
-    1,
-    4,
-    1,
-    4,
-    1,
-    // gear_shock_absorber
-    4,
-    1,
-    4,
-    1,
-    4,
-    1,
-    // door_closed
-    4,
-    1,
-    4,
-    1,
-    4,
-    1,
-    // door_open
-    4,
-    1,
-    4,
-    1,
-    4,
-    1,
-    // circuit_pressurized
-    4,
-    1,
-    // per order on and age: general_EV, close_EV, open_EV, retract_EV, extend_EV
+// The most that each item of the core may be: per order on and age, then handle age, doors, gears, cause.
+const CORE_TOPS: [u32; CORE] = [
     1,
     OLDEST,
     1,
@@ -70,24 +25,25 @@ const TOPS: [u32; 51] = [
     OLDEST,
     1,
     OLDEST,
-    // handle age, doors, gears, cause
     OLDEST,
     3,
     3,
     13,
 ];
 
-// The most that item k may be.
-fn top(k: usize) -> u32
-    requires { ⌜ k < 51 ⌝ }
-    ensures { λ r. ⌜ r ≡ itemAt tops k ⌝ }
+// Whether the length is right, and every item is in its range.
+pub(crate) fn fits(image: &[u8]) -> bool
+    ensures { λ r. ⌜ r ≡ fits (now (image .entry)) ⌝ }
 {
-    TOPS[k]
+    if image.len() == SIZE {
+        return all_within(image);
+    }
+    false
 }
 
 // Whether every item is in its range.
 fn all_within(image: &[u8]) -> bool
-    requires { ⌜ length (now image) ≡ 204 ⌝ }
+    requires { ⌜ length (now image) ≡ size ⌝ }
     ensures { λ r. ⌜ r ≡ within tops (itemsIn (now (image .entry))) ⌝ }
 {
     let mut all = true;
@@ -99,12 +55,19 @@ fn all_within(image: &[u8]) -> bool
     all
 }
 
-// Whether the length is right, and every item is in its range.
-pub(crate) fn fits(image: &[u8]) -> bool
-    ensures { λ r. ⌜ r ≡ fits (now (image .entry)) ⌝ }
+// The most that item k may be: any stamp, the voter's tops over and over, then those of the core.
+fn top(k: usize) -> u32
+    requires { ⌜ k < itemCount ⌝ }
+    ensures { λ r. ⌜ r ≡ itemAt tops k ⌝ }
 {
-    if image.len() == SIZE {
-        return all_within(image);
+    if k == 0 {
+        return 4294967295;
     }
-    false
+    if k < FIRST_ORDER {
+        let sensor = Voter::tops();
+        let j = (k - 1) % voter::ITEMS;
+        return sensor[j];
+    }
+    let j = k - FIRST_ORDER;
+    CORE_TOPS[j]
 }

@@ -1,4 +1,5 @@
 pub mod Laws
 pub mod Numbering
+pub mod Mirrors
 pub mod Once
 pub mod Worked

@@ -12,8 +12,12 @@ use Rattle.voter.proofs.Voter.invalid.Kinds as invalid-kinds
 use Rattle.voter.proofs.Voter.invalid.Reads as invalid-reads
 use Rattle.voter.proofs.Voter.number.Kinds as number-kinds
 use Rattle.voter.proofs.Voter.number.Reads as number-reads
-use Rattle.voter.proofs.Voter.numbered.Kinds as numbered-kinds
-use Rattle.voter.proofs.Voter.numbered.Reads as numbered-reads
+use Rattle.voter.proofs.Voter.items.Kinds as items-kinds
+use Rattle.voter.proofs.Voter.items.Reads as items-reads
+use Rattle.voter.proofs.Voter.tops.Kinds as tops-kinds
+use Rattle.voter.proofs.Voter.tops.Reads as tops-reads
+use Rattle.voter.proofs.Voter.from_items.Kinds as from-items-kinds
+use Rattle.voter.proofs.Voter.from_items.Reads as from-items-reads
 
 pub fresh-once : OneAnswer 0 fresh-kinds.ps fresh-kinds.r fresh-reads.Post
 fresh-once κs a x y s t p q = p ∙ sym q
@@ -30,5 +34,11 @@ invalid-once κs a x y s t p q = p ∙ sym q
 pub number-once : OneAnswer 0 number-kinds.ps number-kinds.r number-reads.Post
 number-once κs a x y s t p q = p ∙ sym q
 
-pub numbered-once : OneAnswer 0 numbered-kinds.ps numbered-kinds.r numbered-reads.Post
-numbered-once κs a x y s t p q = p ∙ sym q
+pub items-once : OneAnswer 0 items-kinds.ps items-kinds.r items-reads.Post
+items-once κs a x y s t p q = p ∙ sym q
+
+pub tops-once : OneAnswer 0 tops-kinds.ps tops-kinds.r tops-reads.Post
+tops-once κs a x y s t p q = p ∙ sym q
+
+pub from-items-once : OneAnswer 0 from-items-kinds.ps from-items-kinds.r from-items-reads.Post
+from-items-once κs a x y s t p q = p ∙ sym q

@@ -1,3 +1,4 @@
 pub mod Voting
 pub mod Numbers
+pub mod Items
 pub mod Cases

@@ -1,10 +1,8 @@
--- Request K3, "per sensor its voter (0 all valid, 1 to 3 that channel struck, 4 invalid)": a sensor's channels as a number, and a
--- sensor from its number and the value held.
+-- Request K3, "per sensor its voter (0 all valid, 1 to 3 that channel struck, 4 invalid)": a sensor's channels as a number.
 -- Assumes nothing.
 use Prim.Native.Nat.{ℕ}
-use mathlib.Core.Bool.{Bool, cond}
+use mathlib.Core.Bool.{cond}
 use lib.Dec.{eqb}
-use Rattle.voter.specs.Voting.{sensor}
 use Rattle.voter.specs.declared.Channels.{Channels}
 use Rattle.voter.specs.declared.Channels.the-variants.{All, Without1, Without2, Without3, Nothing}
 use Rattle.voter.specs.declared.Voter.{Voter}
@@ -21,9 +19,6 @@ channelsNumber Nothing = 4
 abbrev pub lastNumber : ℕ
 lastNumber = 4
 
-unfoldable pub numberOf : Voter → ℕ
-numberOf v = channelsNumber (v .channels)
-
 -- The channels that have a number. (One past the last is read as the last.)
 unfoldable pub channelsAt : ℕ → Channels
 channelsAt n =
@@ -32,5 +27,6 @@ channelsAt n =
     (cond (eqb n 2) Without2
     (cond (eqb n 3) Without3 Nothing)))
 
-unfoldable pub numbered : ℕ → Bool → Voter
-numbered n held = sensor (channelsAt n) held
+-- A sensor's voter, as a number.
+unfoldable pub numberOf : Voter → ℕ
+numberOf v = channelsNumber (v .channels)

@@ -1,10 +1,13 @@
 // One sensor of the rig with its three channels: which of them still count, and the value held.
-// The rule is specs/Voting.antt (document 01, "Voting"). The layers above lean on what stands here as a promise, and on
-// nothing else of a voter.
+// The rule is specs/Voting.antt (document 01, "Voting"), and what a sensor is in an image is specs/Items.antt (request K3). The
+// layers above lean on what stands here as a promise, and on nothing else of a voter.
 ghost use mathlib.Core.Path.{_≡_};
 ghost use Rattle.voter.specs.Voting.{ofThree, ofTwo, voted, freshWith, valueOf, isInvalid};
 
-mod numbers;
+mod items;
+
+// A sensor is so many items of an image (`itemsPerSensor` of specs/Items.antt).
+pub const ITEMS: usize = 2;
 
 // Which channels still count; `Nothing` for an invalid sensor.
 pub enum Channels {
@@ -19,51 +22,6 @@ pub enum Channels {
 pub struct Voter {
     pub channels: Channels,
     pub held: bool,
-}
-
-// Three valid channels: the odd one is struck, and the value is that of the two equal ones.
-fn of_three(one: bool, two: bool, three: bool) -> Voter
-    ensures { λ r. ⌜ r ≡ ofThree one two three ⌝ }
-{
-    if one == two {
-        if two == three {
-            return Voter {
-                channels: Channels::All,
-                held: one,
-            };
-        }
-        return Voter {
-            channels: Channels::Without3,
-            held: one,
-        };
-    }
-    if two == three {
-        return Voter {
-            channels: Channels::Without1,
-            held: two,
-        };
-    }
-    Voter {
-        channels: Channels::Without2,
-        held: three,
-    }
-}
-
-// Two valid channels: their value where they agree, else invalid with the last value kept.
-fn of_two(v: Voter, one: bool, two: bool) -> Voter
-    ensures { λ r. ⌜ r ≡ ofTwo v one two ⌝ }
-{
-    if one == two {
-        let channels = v.channels;
-        return Voter {
-            channels,
-            held: one,
-        };
-    }
-    Voter {
-        channels: Channels::Nothing,
-        held: v.held,
-    }
 }
 
 impl Voter {
@@ -110,5 +68,50 @@ impl Voter {
             Channels::Without3 => false,
             Channels::Nothing => true,
         }
+    }
+}
+
+// Three valid channels: the odd one is struck, and the value is that of the two equal ones.
+fn of_three(one: bool, two: bool, three: bool) -> Voter
+    ensures { λ r. ⌜ r ≡ ofThree one two three ⌝ }
+{
+    if one == two {
+        if two == three {
+            return Voter {
+                channels: Channels::All,
+                held: one,
+            };
+        }
+        return Voter {
+            channels: Channels::Without3,
+            held: one,
+        };
+    }
+    if two == three {
+        return Voter {
+            channels: Channels::Without1,
+            held: two,
+        };
+    }
+    Voter {
+        channels: Channels::Without2,
+        held: three,
+    }
+}
+
+// Two valid channels: their value where they agree, else invalid with the last value kept.
+fn of_two(v: Voter, one: bool, two: bool) -> Voter
+    ensures { λ r. ⌜ r ≡ ofTwo v one two ⌝ }
+{
+    if one == two {
+        let channels = v.channels;
+        return Voter {
+            channels,
+            held: one,
+        };
+    }
+    Voter {
+        channels: Channels::Nothing,
+        held: v.held,
     }
 }

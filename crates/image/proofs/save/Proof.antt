@@ -24,7 +24,7 @@ returns-2 c =
     let put = c .before .before in
     let stands = put .put-state .ensures in
     let whole = sym (front-next (stands .1)) ∙ stands .0 in
-    simp (le-ltb _ _ (put .before .before .if1 .left), front-line (stands .1), whole)
+    simp (le-ltb _ _ (put .before .before .before .before .if1 .left), front-line (stands .1), whole)
 
 pub save-spec : {M : Type 1} → statement M
 save-spec = tie.close (tie.spec returns put-state-requires same-length returns-2)

@@ -1,37 +1,30 @@
--- `image::items::sensor_at` meets its contract: two items.
+-- `image::items::sensor_at` meets its contract: the sensor of its items.
 -- Assumes nothing.
-use Prim.Native.Nat.{_+_, _*_}
-use native.Mathlib.Omega.{arith}
-use mathlib.Core.Path.{_≡_}
+use mathlib.Core.Path.{ap, _∙_}
+use Rattle.voter.specs.Items.{sensorIn}
 use borrow.Author.Needs.{needs}
 use Rattle.image.proofs.items.sensor_at.Statement.{statement}
 use Rattle.image.proofs.items.sensor_at.Tie as tie
 
-mul-at : tie.Need-mul-at
-mul-at c = search needs
+mul-items : tie.Need-mul-items
+mul-items c = search needs
 
-add-at : tie.Need-add-at
-add-at c = search needs
+add-items : tie.Need-add-items
+add-items c = search needs
 
-item-requires : tie.Need-item-requires
-item-requires c κs = search needs
+slice-aggregate-items : tie.Need-slice-aggregate-items
+slice-aggregate-items c = search needs
 
-add-item : tie.Need-add-item
-add-item c = search needs
+items-requires : tie.Need-items-requires
+items-requires c κs = search needs
 
-item-requires-2 : tie.Need-item-requires-2
-item-requires-2 c κs = search needs
-
-numbered-requires : tie.Need-numbered-requires
-numbered-requires c κs = search needs
+from-items-requires : tie.Need-from-items-requires
+from-items-requires c κs = search needs
 
 returns : tie.Need-returns
-returns c =
-    let i = c .before .before .before .before .args .i in
-    let next : 2 * i + 1 + 1 ≡ 2 * i + 2 = omega arith in
-    simp (c .numbered .ensures, c .before .item2 .ensures, c .before .before .item .ensures, next)
+returns c = c .from-items .ensures ∙ ap sensorIn (c .before .before .items2 .ensures)
 
 pub sensor-at-spec : {M : Type 1} → statement M
 sensor-at-spec =
     tie.close
-    (tie.spec mul-at add-at item-requires add-item item-requires-2 numbered-requires returns)
+    (tie.spec mul-items add-items slice-aggregate-items items-requires from-items-requires returns)

@@ -1,9 +1,9 @@
--- `voter::numbers::channels_at` meets its contract: by the number.
+-- `voter::items::channels_at` meets its contract: by the number.
 -- Assumes nothing.
 use borrow.Author.Tests.{eq-eqb, ne-eqb}
 use Rattle.voter.specs.Numbers.{channelsAt}
-use Rattle.voter.proofs.numbers.channels_at.Statement.{statement}
-use Rattle.voter.proofs.numbers.channels_at.Tie as tie
+use Rattle.voter.proofs.items.channels_at.Statement.{statement}
+use Rattle.voter.proofs.items.channels_at.Tie as tie
 
 returns : tie.Need-returns
 unfolding channelsAt
