@@ -23,8 +23,9 @@ use Rattle.orders.specs.Timing.{oldest, order, grownAge, grown, allGrown, switc
 use Rattle.orders.proofs.Laws.{on-is-wanted, needed-keeps-general}
 use Rattle.controller.specs.declared.State.{State}
 use Rattle.controller.specs.Stages.{anomaly, coreOrders, ordersStage}
+use Rattle.image.specs.Items.{sensorCount}
 use Rattle.image.specs.Conditions.{InvalidSensorHasCause, CausesTo13, Allowed}
-use Rattle.image.proofs.Keeping.{are-open, are-out, no-red}
+use Rattle.image.proofs.Keeping.{are-out, no-red}
 use Rattle.laws.proofs.Tests.{then}
 use Rattle.laws.proofs.Wanted.{close-says, open-says, retract-says, extend-says}
 
@@ -116,7 +117,7 @@ module _ (elapsed stamp since cause : ℕ) (voters : List Voter) (p : Place) (os
       record { stamp = stamp; voters = voters; core = record { orders = allGrown elapsed os; since = since; place = p; cause = cause } }
 
   pub orders-allow :
-      length voters ≡ 18 →
+      length voters ≡ sensorCount →
       T (movingHaveOpen p) →
       since ≤ oldest →
       CausesTo13 grownTo →
@@ -140,7 +141,7 @@ module _ (elapsed stamp since cause : ℕ) (voters : List Voter) (p : Place) (os
         causes = caused;
         rules =
             record {
-              movingHaveOpen = λ h. are-open (p .doors) (open-under p m h);
+              movingHaveOpen = m;
               onIsWanted = (closes .isWanted, opens .isWanted, retracts .isWanted, extends .isWanted);
               onHasGeneral = (closes .hasGeneral, opens .hasGeneral, retracts .hasGeneral, extends .hasGeneral);
               openHaveGeneral =

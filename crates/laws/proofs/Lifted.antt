@@ -13,17 +13,15 @@ use Rattle.voter.specs.declared.Voter.{Voter}
 use Rattle.controller.specs.declared.Core.{Core}
 use Rattle.controller.specs.declared.State.{State}
 use Rattle.controller.specs.Votes.{handle, sensor, votesAt, allVoted, sightOf, seenOf, aimed}
-use Rattle.sequence.specs.Places.{areOpen, areMoving, movingHaveOpen}
+use Rattle.sequence.specs.Places.{movingHaveOpen}
 use Rattle.controller.specs.Start.{offLong, freshOrders, freshCore, freshVoters, freshOf, startedAt}
 use Rattle.controller.specs.Stages.{anomaly, coreStep, elapsedOf, agesStage, turned, voteStage, monitorsStage, sequenceStage, accepted}
 use Rattle.controller.specs.Steps.{refusalOf, stepAt, stepOf}
-use Rattle.controller.specs.Shows.{doorsOf, gearsOf}
-use Rattle.image.specs.Conditions.{KeepsRules, Allowed}
+use Rattle.image.specs.Conditions.{Allowed}
 use Rattle.image.proofs.Keeping.{started-keeps}
 use Rattle.image.proofs.RoundTrips.{taken-is-allowed}
 use Rattle.laws.specs.Reached.Reached.{fresh, loaded, started, step}
 use Rattle.laws.specs.Laws.{Always}
-use Rattle.laws.proofs.Tests.{so}
 use Rattle.laws.proofs.Stages.{stages, coreStages}
 use Rattle.laws.proofs.Model.{unless-red, keeps-open}
 use Rattle.laws.proofs.Kept.{since-aged, orders-allow}
@@ -72,11 +70,6 @@ votes-length bytes voters =
     sym (ap length (upTo-all (votesAt bytes) 0 (length voters) voters (le-refl (length voters)))) ∙
     upTo-length (votesAt bytes) 0 (length voters) voters
 
--- Moving gears have doors OPEN.
-pub rules-have-open : (s : State) → KeepsRules s → T (movingHaveOpen (s .core .place))
-unfolding movingHaveOpen
-rules-have-open s rules = so (areMoving (gearsOf s)) (areOpen (doorsOf s)) (λ m. rw (rules .movingHaveOpen m) tt)
-
 accepted-allowed : (s : State) (stamp : ℕ) (bytes : List ℕ) → Allowed s → Allowed (accepted s stamp bytes)
 unfolding aimed stages coreStages
 accepted-allowed s stamp bytes allowed =
@@ -87,13 +80,13 @@ accepted-allowed s stamp bytes allowed =
     orders-allow elapsed stamp (moved .since) (moved .cause) votes (moved .place) (s .core .orders)
     (votes-length bytes (s .voters) ∙ allowed .sensors)
     (keeps-open (unless-red (anomaly (watched .core)) (sensor handle votes) (s .core .place) (seenOf (sightOf votes)))
-    (rules-have-open s (allowed .rules)))
+    (allowed .rules .movingHaveOpen))
     (since-aged (turned (s .voters) votes) elapsed (s .core .since))
     (accepted-to-13 s stamp bytes (allowed .causes))
     (accepted-has-cause s stamp bytes)
 
 fresh-allowed : (stamp : ℕ) → Allowed (freshOf stamp)
-unfolding freshOf freshCore freshOrders offLong freshVoters
+unfolding movingHaveOpen freshOf freshCore freshOrders offLong freshVoters
 fresh-allowed stamp =
     record {
       sensors = refl;
@@ -101,7 +94,7 @@ fresh-allowed stamp =
       causes = lit≤ tt;
       rules =
           record {
-            movingHaveOpen = λ h. absurd h;
+            movingHaveOpen = tt;
             onIsWanted = (λ h. absurd h, λ h. absurd h, λ h. absurd h, λ h. absurd h);
             onHasGeneral = (λ h. absurd h, λ h. absurd h, λ h. absurd h, λ h. absurd h);
             openHaveGeneral = λ notClosed none. absurd (notClosed refl);

@@ -12,6 +12,7 @@ use Rattle.controller.specs.declared.State.{State}
 use Rattle.controller.specs.Shows.{closeEV, openEV, retractEV, extendEV, doorsOf, gearsOf, gearsMove, gearsRest, red}
 use Rattle.sequence.specs.Places.{areOpen}
 use Rattle.image.specs.Conditions.{
+  MovingGearsHaveDoorsOpen,
   OnIsWanted,
   OpenDoorsHaveGeneral,
   InvalidSensorHasCause,
@@ -22,7 +23,6 @@ use Rattle.image.specs.Conditions.{
 use Rattle.laws.specs.Reached.{Reached}
 use Rattle.laws.specs.Laws.{
   Always,
-  MovingGearsHaveDoorsOpen,
   OppositesNeverTogether,
   NoneWithoutGeneral,
   GearOrdersOnlyWithDoorsOpen,
@@ -30,7 +30,7 @@ use Rattle.laws.specs.Laws.{
 }
 use Rattle.laws.proofs.Wanted.{close-says, open-says, retract-says, extend-says}
 use Rattle.laws.proofs.Kept.{open-under}
-use Rattle.laws.proofs.Lifted.{rules-have-open, reached-is-allowed}
+use Rattle.laws.proofs.Lifted.{reached-is-allowed}
 
 keeps-rules : Always KeepsRules
 keeps-rules s reached = reached-is-allowed s reached .rules
@@ -38,7 +38,7 @@ keeps-rules s reached = reached-is-allowed s reached .rules
 -- ---- Request K3
 
 pub moving-gears-have-doors-open : Always MovingGearsHaveDoorsOpen
-moving-gears-have-doors-open s reached = rules-have-open s (keeps-rules s reached)
+moving-gears-have-doors-open s reached = keeps-rules s reached .movingHaveOpen
 
 pub an-order-that-is-on-is-wanted : Always OnIsWanted
 an-order-that-is-on-is-wanted s reached = keeps-rules s reached .onIsWanted

@@ -5,7 +5,7 @@ use mathlib.Core.Bool.{Bool, true, false, not, _&&_}
 use mathlib.Core.List.{List, [], _∷_}
 use Prim.Native.Nat.{ℕ}
 use lib.Dec.{T, eqb}
-use Rattle.sequence.specs.Places.{areClosed, areOpen, movingHaveOpen}
+use Rattle.sequence.specs.Places.{areClosed, areOpen}
 use Rattle.controller.specs.declared.State.{State}
 use Rattle.controller.specs.Votes.{handle, sensor}
 use Rattle.controller.specs.Steps.{stepOf}
@@ -69,10 +69,6 @@ OppositesNeverTogether s = (T (openEV s) → T (closeEV s) → ⊥) × (T (retra
 -- None of the four without general_EV.
 abbrev pub NoneWithoutGeneral : State → Type 0
 NoneWithoutGeneral = OnHasGeneral
-
--- Moving gears have doors OPEN: so request K3 asks it too.
-abbrev pub MovingGearsHaveDoorsOpen : State → Type 0
-MovingGearsHaveDoorsOpen s = T (movingHaveOpen (s .core .place))
 
 -- Gear orders only with doors OPEN.
 abbrev pub GearOrdersOnlyWithDoorsOpen : State → Type 0
