@@ -45,13 +45,12 @@ unfolding runs
 a-whole-lesson = refl
 
 -- Each test holds after its samples from a fresh start.
-eachMet : List (State → Bool) → List (List Row) → Bool
+abbrev eachMet : List (State → Bool) → List (List Row) → Bool
 eachMet [] runs = true
 eachMet (test ∷ tests) [] = false
 eachMet (test ∷ tests) (rows ∷ more) = test (after (freshOf 0) rows) && eachMet tests more
 
 by : (tests : List (State → Bool)) (runs : List (List Row)) → T (eachMet tests runs) → AllSometimes tests
-unfolding eachMet
 by [] runs met = tt
 by (test ∷ tests) [] met = absurd met
 by (test ∷ tests) (rows ∷ more) met =
@@ -60,7 +59,7 @@ by (test ∷ tests) (rows ∷ more) met =
 
 -- Each thing that the laws speak of is met, in the lesson or with the switch that breaks: the laws are not empty.
 pub each-is-met : AllSometimes spokenOf
-unfolding runs eachMet
+unfolding runs
 each-is-met =
     by spokenOf
     (take 1 lesson ∷ take 9 lesson ∷ take 3 lesson ∷ take 6 lesson ∷ take 15 lesson ∷

@@ -29,12 +29,12 @@ use Rattle.settling.proofs.CoreSettles.{core-unsettled-is-early, core-d
 
 -- ---- What samples tell the core
 
-toldBy : State → Row → Told
+abbrev toldBy : State → Row → Told
 toldBy s r =
     let votes : List Voter = allVoted (r .1) (s .voters) in
     record { elapsed = elapsedOf (s .stamp) (r .0); turned = turned (s .voters) votes; see = sightOf votes }
 
-allToldBy : State → List Row → List Told
+abbrev allToldBy : State → List Row → List Told
 allToldBy s [] = []
 allToldBy s (r ∷ rs) = toldBy s r ∷ allToldBy (next s r) rs
 
@@ -78,7 +78,7 @@ module _ (down : Bool) (s : State) (r : Row) (rs : List Row) (h : Held down s (r
   handle-held = rw voters-next at (same (sensor handle (next s r .voters)) down (taken-and-says .1))
 
   core-next : next s r .core ≡ coreNext (aimOf down) (s .core) (toldBy s r)
-  unfolding coreNext toldBy aimed
+  unfolding coreNext aimed
   core-next =
       ap (λ (t : State). t .core) is-accepted ∙
       core-of-accepted s (r .0) (r .1) ∙
@@ -90,26 +90,26 @@ core-after :
     (down : Bool) (s : State) (rs : List Row) →
     Held down s rs →
     after s rs .core ≡ coreAfter (aimOf down) (s .core) (allToldBy s rs)
-unfolding after coreAfter allToldBy
+unfolding after coreAfter
 core-after down s [] h = refl
 core-after down s (r ∷ rs) h =
     core-after down (next s r) rs (goes-on down s r rs h) ∙
     ap (λ (c : Core). coreAfter (aimOf down) c (allToldBy (next s r) rs)) (core-next down s r rs h)
 
 all-within : (down : Bool) (s : State) (rs : List Row) → Held down s rs → Within limit (allToldBy s rs)
-unfolding Within allToldBy toldBy
+unfolding Within
 all-within down s [] h = tt
 all-within down s (r ∷ rs) h =
     (within-limit down s r rs h, all-within down (next s r) rs (goes-on down s r rs h))
 
 elapsed-told : (s : State) (rs : List Row) → elapsedIn s rs ≡ elapsedTold (allToldBy s rs)
-unfolding elapsedIn elapsedTold allToldBy toldBy
+unfolding elapsedIn elapsedTold
 elapsed-told s [] = refl
 elapsed-told s (r ∷ rs) = ap (λ (n : ℕ). elapsedOf (s .stamp) (r .0) + n) (elapsed-told (next s r) rs)
 
 -- What holds of every run of the core holds of every run of samples.
 by-the-core : (Says : ℕ → Aim → Core → Type 0) → OfEveryCoreRun limit Says → OfEveryRun Says
-unfolding elapsedSince allToldBy
+unfolding elapsedSince
 by-the-core Says ofTheCore s reached down first rest stays =
     rw (core-after down s (first ∷ rest) stays, elapsed-told (next s first) rest)
     (ofTheCore (aimOf down) (s .core) (moving-gears-have-doors-open s reached) (toldBy s first) (allToldBy (next s first) rest)

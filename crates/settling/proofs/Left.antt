@@ -127,7 +127,7 @@ module _ (limit elapsed w lacks : ℕ) (done : elapsed + lacks ≤ w) where
   closing-next = omega arith
 
 module _ (limit elapsed : ℕ) (within : elapsed ≤ limit) (stops : Bool) (f : Five) where
-  FallsTo : Phase → Phase → Type 0
+  abbrev FallsTo : Phase → Phase → Type 0
   FallsTo phase phase′ = elapsed + left limit phase′ (stepped elapsed stops phase′ f) ≤ left limit phase f
 
   -- An order with another to follow, which waits for general_EV and for `next`: it goes on, or it is done.
@@ -156,13 +156,11 @@ module _ (limit elapsed : ℕ) (within : elapsed ≤ limit) (stops : Bool) (f : 
 
   -- Doors are OPENING: they are seen open, or open_EV starts or goes on.
   opening-done : Standing opening f → FallsTo opening opened
-  unfolding FallsTo
   opening-done s =
       rw (unwanted-work limit gearTop, general-age elapsed stops (f .general) (s .general tt), off-age elapsed _ _ (f .against) (s .against))
       (gears-next limit elapsed _ _ (done doorTop door-top (f .opens) (f .against) _))
 
   opens-fall : Standing opening f → (T (f .opens .on) → grownAge elapsed (f .opens .age) ≤ doorTop) → FallsTo opening opening
-  unfolding FallsTo
   opens-fall s inTime =
       then elapsed _ _ _
       (rw (
@@ -179,14 +177,12 @@ module _ (limit elapsed : ℕ) (within : elapsed ≤ limit) (stops : Bool) (f : 
       (T (f .against .on) → ⊥) →
       (T (f .towards .on) → grownAge elapsed (f .towards .age) ≤ gearTop) →
       FallsTo underWay underWay
-  unfolding FallsTo
   gears-fall g o a inTime =
       then elapsed _ _ _
       (rw (general-age elapsed stops (f .general) g, off-age elapsed _ _ (f .opens) o, off-age elapsed _ _ (f .against) a)
       (goes gearTop gear-top (f .towards) (f .opens) (f .against) g a inTime))
 
   under-way-done : Standing underWay f → FallsTo underWay arrived
-  unfolding FallsTo
   under-way-done s =
       rw (unwanted-work limit doorTop, general-age elapsed stops (f .general) (s .general tt), off-age elapsed _ _ (f .opens) (s .opens))
       (closing-next limit elapsed _ _ (done gearTop gear-top (f .towards) (f .opens) _))
@@ -197,13 +193,11 @@ module _ (limit elapsed : ℕ) (within : elapsed ≤ limit) (stops : Bool) (f : 
       (T (f .opens .on) → ⊥) →
       (T (f .closes .on) → grownAge elapsed (f .closes .age) ≤ doorTop) →
       FallsTo closing closing
-  unfolding FallsTo
   closes-fall g o inTime =
       rw (general-age elapsed stops (f .general) g, off-age elapsed _ _ (f .opens) o)
       (goes-on limit elapsed doorTop within door-top (f .general) (f .opens) (f .closes) 0 0 g o inTime zero-le (omega arith))
 
   closing-done : FallsTo closing closed
-  unfolding FallsTo
   closing-done = is-done limit elapsed doorTop within door-top (f .closes) _ 0 0 zero-le (omega arith)
 
   pub left-falls :
@@ -212,7 +206,6 @@ module _ (limit elapsed : ℕ) (within : elapsed ≤ limit) (stops : Bool) (f : 
       Standing phase f →
       InTime elapsed aim seen f →
       elapsed + left limit (onward aim seen phase) (stepped elapsed stops (onward aim seen phase) f) ≤ left limit phase f
-  unfolding FallsTo
   left-falls aim seen opening n s t =
       by-cases (seen .opened) (λ (there : Bool). FallsTo opening (cond there opened opening)) (λ there. opening-done s)
       (λ away. opens-fall s (t .opens away))

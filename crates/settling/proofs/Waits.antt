@@ -105,14 +105,13 @@ module _ (limit elapsed top : ℕ) (within : elapsed ≤ limit) (isTop : IsTop t
 
   -- An order that was off, by the two tests that let it start.
   module _ (general opposite : ℕ) where
-    before : ℕ
+    abbrev before : ℕ
     before = lacking general opposite
 
-    after : ℕ
+    abbrev after : ℕ
     after = lacking (grownAge elapsed general) (grownAge elapsed opposite)
 
     still-off : elapsed ≤ before → elapsed + (after + limit + (top + limit)) ≤ before + limit + (top + limit)
-    unfolding before after
     still-off = held-back before after (lacking-falls elapsed general opposite)
 
     off-falls :
@@ -121,7 +120,7 @@ module _ (limit elapsed top : ℕ) (within : elapsed ≤ limit) (isTop : IsTop t
         (T (not generalOld) → grownAge elapsed general < 200) →
         (T (not oppositeOld) → grownAge elapsed opposite < 100) →
         elapsed + work limit top (switched (generalOld && oppositeOld) (order false age)) after later ≤ before + limit + (top + limit)
-    unfolding before switched
+    unfolding switched
     off-falls age later true true small g p = starts before later small
     off-falls age later true false small g p = still-off (opposite-low elapsed general opposite (p tt))
     off-falls age later false true small g p = still-off (general-low elapsed general opposite (g tt))
@@ -141,7 +140,7 @@ module _ (limit elapsed top : ℕ) (within : elapsed ≤ limit) (isTop : IsTop t
       (lacking (grownAge elapsed general) (grownAge elapsed opposite))
       later ≤
       work limit top (order on age) (lacking general opposite) next
-  unfolding directed grown onFor offFor switched before after
+  unfolding directed grown onFor offFor switched
   by-parts true false true general opposite age next later g p inTime small f = stays-on age next later (inTime tt) f
   by-parts true false false general opposite age next later g p inTime small f =
       off-falls general opposite (grownAge elapsed age) later (leb 200 (grownAge elapsed general)) (leb 100 (grownAge elapsed opposite)) small
