@@ -4,10 +4,11 @@ use mathlib.Core.Path.{refl}
 use Rattle.common.specs.Ascii.{joinedByCommas}
 use Rattle.common.specs.Case.{AllAsWanted}
 use Rattle.voter.specs.Numbers.{numberOf}
+use Rattle.voter.specs.Items.{sensorItems}
 use Rattle.controller.specs.Start.{startedAt}
 use Rattle.controller.proofs.Computing.{rules}
 use Rattle.image.specs.Xdr.{fourBytes, bytesOf}
-use Rattle.image.specs.Items.{sensorItems, orderItems, ordersItems, restItems, coreItems, itemsOf}
+use Rattle.image.specs.Items.{sensorsItems, orderItems, ordersItems, restItems, coreItems, itemsOf}
 use Rattle.image.specs.Images.{imageOf}
 use Rattle.lines.specs.Rows.{before, rowsOf}
 use Rattle.trace.specs.Numbers.{digitsFrom, numberOf as numberIn, tripleOf}
@@ -22,7 +23,7 @@ use Rattle.handing.specs.Cases.{imageOfS, saves, handingCases}
 pub as-worked : AllAsWanted handingCases
 unfolding
     rules startedAt
-    numberOf fourBytes bytesOf sensorItems orderItems ordersItems restItems coreItems itemsOf imageOf
+    numberOf fourBytes bytesOf sensorItems sensorsItems orderItems ordersItems restItems coreItems itemsOf imageOf
     before rowsOf digitsFrom numberIn tripleOf fieldsOf triplesOf formOf inTurn readRow headerNames headerText sameText joinedByCommas
     endsAt headerRow answerTo shownRow noSample traceRow rowOf endOf readTo
     ended trace rowsOfS
