@@ -3,7 +3,6 @@ ghost use mathlib.Core.Path.{_≡_};
 ghost use Prim.Native.Nat.{_+_, _*_, _≤_, _<_};
 ghost use lib.Dec.{T};
 ghost use lib.ListN.{length, take, drop};
-ghost use Rattle.common.specs.Bits.{bit};
 ghost use Rattle.texts.specs.Puts.{Put};
 ghost use Rattle.voter.specs.Items.{itemsPerSensor, sensorIn};
 ghost use Rattle.image.specs.Xdr.{itemsIn};
@@ -91,28 +90,21 @@ fn core_items(core: Core) -> [u32; CORE]
     let doors = place.doors;
     let gears = place.gears;
     [
-        one_if(orders.general.on),
+        orders.general.on as u32,
         orders.general.age,
-        one_if(orders.closes.on),
+        orders.closes.on as u32,
         orders.closes.age,
-        one_if(orders.opens.on),
+        orders.opens.on as u32,
         orders.opens.age,
-        one_if(orders.retracts.on),
+        orders.retracts.on as u32,
         orders.retracts.age,
-        one_if(orders.extends.on),
+        orders.extends.on as u32,
         orders.extends.age,
         core.since,
         doors.number(),
         gears.number(),
         core.cause as u32,
     ]
-}
-
-// 1 for on, 0 for off.
-fn one_if(on: bool) -> u32
-    ensures { λ r. ⌜ r ≡ bit on ⌝ }
-{
-    if on { 1 } else { 0 }
 }
 
 // The sensors of an image.

@@ -18,14 +18,16 @@ use controller::State;
 // An image has so many bytes: 204.
 pub const SIZE: usize = xdr::ITEM * ITEMS;
 
-// So many items: the last stamp, those of the sensors, on and age of five orders, and handle age, doors, gears, cause
-// (`itemCount`, `firstOrder`, `sensorCount`, `coreWidth` of specs/Items.antt).
+// So many items (`itemCount` of specs/Items.antt).
 const ITEMS: usize = FIRST_ORDER + CORE;
 
+// The place of the first order's items (`firstOrder`): before them stand the last stamp and the sensors' items.
 const FIRST_ORDER: usize = 1 + voter::ITEMS * SENSORS;
 
+// So many sensors (`sensorCount`).
 const SENSORS: usize = 18;
 
+// Items of the orders, on and age of five, and handle age, doors, gears, cause (`coreWidth`).
 const CORE: usize = 14;
 
 // Saves a controller into a lent buffer: 0, or 8 where the buffer is shorter than an image.

@@ -7,6 +7,7 @@ use mathlib.Core.List.{List, [], _∷_}
 use mathlib.Core.Path.{_≡_, refl, ap₂}
 use lib.Dec.{lit≤, lit<}
 use lib.ListN.{getD}
+use mir.Val.{boolByte}
 use Rattle.common.specs.Bits.{bit, isOne}
 use Rattle.voter.specs.Voting.{sensor, valueOf}
 use Rattle.voter.specs.Numbers.{numberOf}
@@ -28,6 +29,11 @@ bit-of-one (suc (suc n)) h = absurd (omega arith)
 pub bit-to-1 : (b : Bool) → bit b ≤ 1
 bit-to-1 true = lit≤ tt
 bit-to-1 false = lit≤ tt
+
+-- As the code casts it.
+pub byte-is-bit : (b : Bool) → boolByte b ≡ bit b
+byte-is-bit true = refl
+byte-is-bit false = refl
 
 -- ---- A sensor
 

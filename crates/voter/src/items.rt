@@ -1,6 +1,5 @@
 // A sensor as items of an image (specs/Items.antt; request K3), and the number that its first item is (specs/Numbers.antt).
 ghost use mathlib.Core.Path.{_≡_};
-ghost use Rattle.common.specs.Bits.{bit};
 ghost use Rattle.voter.specs.Numbers.{channelsNumber, channelsAt, numberOf};
 ghost use Rattle.voter.specs.Items.{sensorItems, sensorTops, sensorIn};
 use crate::Channels;
@@ -20,7 +19,7 @@ impl Voter {
     pub fn items(self) -> [u32; ITEMS]
         ensures { λ r. ⌜ r ≡ sensorItems self ⌝ }
     {
-        [self.number(), one_if(self.held)]
+        [self.number(), self.held as u32]
     }
 
     // The most that each item of a sensor may be.
@@ -71,11 +70,4 @@ fn channels_at(number: u32) -> Channels
         return Channels::Without3;
     }
     Channels::Nothing
-}
-
-// 1 for held 1, 0 for held 0.
-fn one_if(held: bool) -> u32
-    ensures { λ r. ⌜ r ≡ bit held ⌝ }
-{
-    if held { 1 } else { 0 }
 }

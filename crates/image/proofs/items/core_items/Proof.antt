@@ -1,24 +1,25 @@
 -- `image::items::core_items` meets its contract: one item after the other.
 -- Assumes nothing.
+use Rattle.voter.proofs.Mirrors.{byte-is-bit}
 use Rattle.image.specs.Items.{orderItems, ordersItems, restItems, coreItems}
 use borrow.Author.Needs.{needs}
 use Rattle.image.proofs.items.core_items.Statement.{statement}
 use Rattle.image.proofs.items.core_items.Tie as tie
 
-one-if-requires : tie.Need-one-if-requires
-one-if-requires c κs = search needs
+cast-t6 : tie.Need-cast-t6
+cast-t6 c = search needs
 
-one-if-requires-2 : tie.Need-one-if-requires-2
-one-if-requires-2 c κs = search needs
+cast-t7 : tie.Need-cast-t7
+cast-t7 c = search needs
 
-one-if-requires-3 : tie.Need-one-if-requires-3
-one-if-requires-3 c κs = search needs
+cast-t8 : tie.Need-cast-t8
+cast-t8 c = search needs
 
-one-if-requires-4 : tie.Need-one-if-requires-4
-one-if-requires-4 c κs = search needs
+cast-t9 : tie.Need-cast-t9
+cast-t9 c = search needs
 
-one-if-requires-5 : tie.Need-one-if-requires-5
-one-if-requires-5 c κs = search needs
+cast-t10 : tie.Need-cast-t10
+cast-t10 c = search needs
 
 number-requires : tie.Need-number-requires
 number-requires c κs = search needs
@@ -31,32 +32,17 @@ cast-t13 c = search needs
 
 returns : tie.Need-returns
 unfolding orderItems ordersItems restItems coreItems
-returns c =
-    let gears = c .before in
-    let doors = gears .before in
-    let extends = doors .before in
-    let retracts = extends .before in
-    let opens = retracts .before in
-    let closes = opens .before in
-    simp (
-      gears .number2 .ensures,
-      doors .number .ensures,
-      extends .one-if5 .ensures,
-      retracts .one-if4 .ensures,
-      opens .one-if3 .ensures,
-      closes .one-if2 .ensures,
-      closes .before .one-if .ensures,
-    )
+returns c = simp (c .before .number2 .ensures, c .before .before .number .ensures, byte-is-bit)
 
 pub core-items-spec : {M : Type 1} → statement M
 core-items-spec =
     tie.close
     (tie.spec
-    one-if-requires
-    one-if-requires-2
-    one-if-requires-3
-    one-if-requires-4
-    one-if-requires-5
+    cast-t6
+    cast-t7
+    cast-t8
+    cast-t9
+    cast-t10
     number-requires
     number-requires-2
     cast-t13

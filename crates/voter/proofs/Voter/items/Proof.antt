@@ -2,6 +2,7 @@
 -- Assumes nothing.
 use Rattle.voter.specs.Voting.{valueOf}
 use Rattle.voter.specs.Items.{sensorItems}
+use Rattle.voter.proofs.Mirrors.{byte-is-bit}
 use borrow.Author.Needs.{needs}
 use Rattle.voter.proofs.Voter.items.Statement.{statement}
 use Rattle.voter.proofs.Voter.items.Tie as tie
@@ -9,12 +10,12 @@ use Rattle.voter.proofs.Voter.items.Tie as tie
 number-requires : tie.Need-number-requires
 number-requires c κs = search needs
 
-one-if-requires : tie.Need-one-if-requires
-one-if-requires c κs = search needs
+cast-t3 : tie.Need-cast-t3
+cast-t3 c = search needs
 
 returns : tie.Need-returns
 unfolding sensorItems valueOf
-returns c = simp (c .one-if .ensures, c .before .number .ensures)
+returns c = simp (c .before .number .ensures, byte-is-bit)
 
 pub items-spec : {M : Type 1} → statement M
-items-spec = tie.close (tie.spec number-requires one-if-requires returns)
+items-spec = tie.close (tie.spec number-requires cast-t3 returns)
