@@ -1,6 +1,7 @@
 pub mod Fields
+pub mod Lengths
 pub mod Once
 pub mod PageWorked
-pub mod Places
+pub mod Pieces
 pub mod Telling
 pub mod Worked

@@ -6,27 +6,14 @@ use Rattle.common.specs.Case.{AllAsWanted}
 use Rattle.common.specs.Decimal.{decimal, decimalUpTo}
 use Rattle.sequence.specs.Moves.{atAim, nextGears, doorsToGears, doorsHome, moveOf}
 use Rattle.sequence.specs.Numbers.{doorsAt, gearsAt}
-use Rattle.sequence.specs.Table.{factsAt, askedAt, nextOf}
+use Rattle.table.specs.Table.{factsAt, askedAt}
 use Rattle.sequence.specs.Places.{movingHaveOpen}
-use Rattle.chart.specs.Differences.{placeOf, nextWith, samePlace, decides, decidingAt}
-use Rattle.chart.specs.Page.{
-  cornerText,
-  frameText,
-  numbersText,
-  whenText,
-  doorsText,
-  gearsText,
-  nextText,
-  otherwiseText,
-  bothText,
-  placeText,
-  lines,
-}
+use Rattle.chart.specs.Differences.{keptOf, decides, decisive}
+use Rattle.chart.specs.Page.{frameText, numbersText, whenText, partBegin, partsText, nextText, elseText, placeText, lines}
 use Rattle.chart.specs.PageCases.{openingLines, openingPlace, greyLines, greyPlace}
 
 pub places-as-wanted : AllAsWanted (openingPlace ∷ greyPlace ∷ [])
-unfolding decimal decimalUpTo atAim nextGears doorsToGears doorsHome moveOf doorsAt gearsAt factsAt askedAt nextOf movingHaveOpen
-    placeOf nextWith samePlace decides decidingAt
-    cornerText frameText numbersText whenText doorsText gearsText nextText otherwiseText bothText placeText lines
+unfolding decimal decimalUpTo atAim nextGears doorsToGears doorsHome moveOf doorsAt gearsAt factsAt askedAt movingHaveOpen
+    keptOf decides decisive frameText numbersText whenText partBegin partsText nextText elseText placeText lines
     openingLines openingPlace greyLines greyPlace
 places-as-wanted = refl

@@ -7,14 +7,16 @@ use mathlib.Core.Path.{_≡_, refl, sym, ap, subst, _∙_}
 use lib.Dec.{T}
 use Rattle.common.specs.Lists.{givenFrom}
 use Rattle.common.proofs.Given.{same-at-each}
+use Rattle.sequence.specs.declared.Aim.{Aim}
+use Rattle.sequence.specs.declared.Place.{Place}
 use Rattle.sequence.specs.Moves.{atAim, nextGears, doorsToGears, doorsHome, moveOf}
 use Rattle.sequence.specs.Numbers.{doorsAt, gearsAt}
-use Rattle.sequence.specs.Table.{entries, factsAt, askedAt, nextOf, placeNumber, placeAt, ruledAt}
-use Rattle.sequence.proofs.Entries.{place-at-number}
+use Rattle.table.specs.Table.{entries, factsAt, askedAt, nextOf, placeNumber, placeAt, ruledAt}
+use Rattle.table.proofs.Entries.{place-at-number}
 use Rattle.chart.specs.declared.differences.Deciding.{Deciding}
 use Rattle.chart.specs.declared.differences.Deciding.the-variants.{Nothing, AllOpen, AllClosed, AllExtended, AllRetracted}
-use Rattle.chart.specs.Differences.{nextWith, samePlace, decides, decidingAt}
-use Rattle.chart.specs.Telling.{isNamed, told}
+use Rattle.chart.specs.Differences.{keptOf, isNamed, decides, decisive}
+use Rattle.chart.specs.Telling.{toldOf, told}
 
 -- ---- The page tells what the table tells
 
@@ -24,7 +26,7 @@ toldNumber n = placeNumber (told (n / 16) (n % 16))
 -- The test: all 512 are computed.
 all-told : givenFrom toldNumber 0 entries ≡ givenFrom ruledAt 0 entries
 unfolding givenFrom atAim nextGears doorsToGears doorsHome moveOf doorsAt gearsAt factsAt askedAt nextOf placeNumber ruledAt
-    nextWith samePlace decides decidingAt told
+    keptOf decides decisive toldOf told
 all-told = refl
 
 pub page-tells : (n : ℕ) → n < entries → told (n / 16) (n % 16) ≡ nextOf (askedAt n)
@@ -60,6 +62,9 @@ module _ (test : Deciding → Bool) where
       refl
 
 -- Where a fact is named, what comes next with it alone and what comes next with none differ.
-pub named-fact-matters : (k : ℕ) (fact : Deciding) → decidingAt k ≡ fact → T (isNamed fact) → T (decides k fact)
-unfolding decidingAt
-named-fact-matters k fact e = subst (λ (f : Deciding). T (isNamed f) → T (decides k f)) e (picked-passes (decides k))
+pub named-fact-matters : (aim : Aim) (from : Place) (fact : Deciding) → decisive aim from ≡ fact → T (isNamed fact) → T (decides aim from fact)
+unfolding decisive
+named-fact-matters aim from fact e =
+    subst (λ (f : Deciding). T (isNamed f) → T (decides aim from f)) e (picked-passes (decides aim from))
+
+-- x

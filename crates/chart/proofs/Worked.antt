@@ -6,7 +6,7 @@ use Rattle.common.specs.Case.{AllAsWanted}
 use Rattle.common.specs.Decimal.{decimal, decimalUpTo}
 use Rattle.sequence.specs.Moves.{atAim, nextGears, doorsToGears, doorsHome, moveOf}
 use Rattle.sequence.specs.Numbers.{doorsAt, gearsAt}
-use Rattle.sequence.specs.Table.{factsAt, askedAt, nextOf}
+use Rattle.table.specs.Table.{factsAt, askedAt, nextOf}
 use Rattle.sequence.specs.Places.{movingHaveOpen}
 use Rattle.chart.specs.Cases.{tableLines}
 use Rattle.chart.specs.Csv.{csvHeader, csvRow}

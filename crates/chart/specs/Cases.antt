@@ -3,9 +3,8 @@
 use Prim.Native.Nat.{ℕ}
 use Prim.Native.String.{String}
 use mathlib.Core.List.{List, [], _∷_, _++_}
-use Rattle.common.specs.Ascii.{ascii}
+use Rattle.common.specs.Ascii.{ascii, crlf}
 use Rattle.common.specs.Case.{Case}
-use Rattle.output.specs.Rows.{crlf}
 use Rattle.chart.specs.Csv.{csvHeader, csvRow}
 
 -- A text and the line that it must be.

@@ -1,54 +1,51 @@
 -- Request K4: the table as CSV by RFC 4180: a header, and a row for each of the 512 entries, with words and numbers.
 -- Assumes nothing.
-use Prim.Native.Nat.{ℕ}
+use Prim.Native.Nat.{ℕ, _+_}
+use mathlib.Core.Bool.{Bool}
 use mathlib.Core.List.{List, [], _∷_, _++_, flatten}
-use Rattle.common.specs.Ascii.{ascii, comma, joinedByCommas}
-use Rattle.common.specs.Decimal.{decimal}
+use Rattle.common.specs.Ascii.{ascii, comma, crlf, joinedByCommas}
+use Rattle.common.specs.Bits.{bit}
+use Rattle.common.specs.Decimal.{decimal, digit0}
 use Rattle.common.specs.Lists.{givenFrom}
-use Rattle.sequence.specs.declared.Aim.{Aim}
-use Rattle.sequence.specs.declared.Aim.the-variants.{ToRetracted, ToExtended}
-use Rattle.sequence.specs.declared.Asked.{Asked}
-use Rattle.sequence.specs.declared.Doors.{Doors}
-use Rattle.sequence.specs.declared.Gears.{Gears}
+use Rattle.names.specs.Words.{handleWord, doorsWord, gearsWord}
+use Rattle.table.specs.declared.Asked.{Asked}
 use Rattle.sequence.specs.declared.Place.{Place}
 use Rattle.sequence.specs.declared.Seen.{Seen}
 use Rattle.sequence.specs.Numbers.{doorsNumber, gearsNumber}
-use Rattle.sequence.specs.Table.{entries, askedAt, nextOf}
+use Rattle.table.specs.Table.{entries, askedAt, nextOf}
 use Rattle.sequence.specs.Numbers.{handleNumber}
 use Rattle.sequence.specs.Places.{movingHaveOpen}
-use Rattle.output.specs.Rows.{crlf, onOff, doorsWord, gearsWord}
 
 -- ---- Fields
 
--- The handle that has an aim: its word and its number.
-abbrev pub handleFields : Aim → List (List ℕ)
-handleFields ToRetracted = ascii "up" ∷ decimal (handleNumber ToRetracted) ∷ []
-handleFields ToExtended = ascii "down" ∷ decimal (handleNumber ToExtended) ∷ []
+-- A word and its number.
+abbrev pub numbered : List ℕ → ℕ → List (List ℕ)
+numbered word n = word ∷ decimal n ∷ []
 
--- Doors, gears: the word and the number of each.
-abbrev pub doorsFields : Doors → List (List ℕ)
-doorsFields doors = doorsWord doors ∷ decimal (doorsNumber doors) ∷ []
-
-abbrev pub gearsFields : Gears → List (List ℕ)
-gearsFields gears = gearsWord gears ∷ decimal (gearsNumber gears) ∷ []
-
+-- Doors and gears.
 abbrev pub placeFields : Place → List (List ℕ)
-placeFields p = doorsFields (p .doors) ++ gearsFields (p .gears)
+placeFields p = numbered (doorsWord (p .doors)) (doorsNumber (p .doors)) ++ numbered (gearsWord (p .gears)) (gearsNumber (p .gears))
 
--- The four facts: 1 for seen, 0 for not.
+-- A fact: 1 for seen, 0 for not.
+abbrev pub factField : Bool → List ℕ
+factField fact = (digit0 + bit fact) ∷ []
+
+-- The four facts.
 abbrev pub factFields : Seen → List (List ℕ)
-factFields seen = onOff (seen .opened) ∷ onOff (seen .closed) ∷ onOff (seen .extended) ∷ onOff (seen .retracted) ∷ []
+factFields seen =
+    factField (seen .opened) ∷ factField (seen .closed) ∷ factField (seen .extended) ∷ factField (seen .retracted) ∷ []
 
 -- What is asked: handle, doors, gears, and the facts.
 abbrev pub askedFields : Asked → List (List ℕ)
-askedFields a = handleFields (a .aim) ++ placeFields (a .place) ++ factFields (a .seen)
+askedFields a = numbered (handleWord (a .aim)) (handleNumber (a .aim)) ++ placeFields (a .place) ++ factFields (a .seen)
 
 -- The entry's number; what is asked; what comes next; and 1 if a reached state can ask it.
 abbrev pub rowFields : ℕ → Asked → List (List ℕ)
-rowFields n a = decimal n ∷ (askedFields a ++ placeFields (nextOf a) ++ onOff (movingHaveOpen (a .place)) ∷ [])
+rowFields n a = decimal n ∷ (askedFields a ++ placeFields (nextOf a) ++ factField (movingHaveOpen (a .place)) ∷ [])
 
 -- ---- The text
 
+-- The names of the fields.
 unfoldable pub csvHeader : List ℕ
 csvHeader =
     joinedByCommas
@@ -61,15 +58,16 @@ csvHeader =
     [])
     ++ crlf
 
+-- The row of an entry.
 unfoldable pub csvRow : ℕ → List ℕ
 csvRow n = joinedByCommas (rowFields n (askedAt n)) ++ crlf
 
+-- The header, and a row for each entry.
 unfoldable pub csvText : List ℕ
 csvText = csvHeader ++ flatten (givenFrom csvRow 0 entries)
 
 -- ---- Pieces
 
--- Fields behind the first, each with the comma before it.
-unfoldable pub laterFields : List (List ℕ) → List ℕ
-laterFields [] = []
-laterFields (f ∷ fs) = (comma ∷ f) ++ laterFields fs
+-- Fields behind others, each with the comma before it.
+abbrev pub behind : List (List ℕ) → List ℕ
+behind fields = comma ∷ joinedByCommas fields

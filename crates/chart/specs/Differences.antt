@@ -1,52 +1,73 @@
 -- Request K4: what comes next at each of the 32 places of handle, doors and gears, and the fact that makes a difference there.
 -- Assumes nothing.
-use Prim.Native.Nat.{ℕ, _+_, _*_}
-use mathlib.Core.Bool.{Bool, cond, not, _&&_}
+use Prim.Native.Nat.{ℕ, _*_}
+use mathlib.Core.Bool.{Bool, true, false, cond, not, _&&_}
 use lib.Dec.{eqb}
-use Rattle.sequence.specs.declared.Doors.{Doors}
-use Rattle.sequence.specs.declared.Gears.{Gears}
+use Rattle.sequence.specs.declared.Aim.{Aim}
 use Rattle.sequence.specs.declared.Place.{Place}
+use Rattle.sequence.specs.declared.Seen.{Seen}
+use Rattle.sequence.specs.Moves.{moveOf}
 use Rattle.sequence.specs.Numbers.{doorsNumber, gearsNumber}
-use Rattle.sequence.specs.Table.{askedAt, nextOf}
+use Rattle.table.specs.Table.{askedAt}
 use Rattle.chart.specs.declared.differences.Deciding.{Deciding}
 use Rattle.chart.specs.declared.differences.Deciding.the-variants.{Nothing, AllOpen, AllClosed, AllExtended, AllRetracted}
+use Rattle.chart.specs.declared.differences.Kept.{Kept}
+
+-- ---- Places
 
 -- The places by their number: handle, doors, gears, the first most significant. Place k has the entries 16 k to 16 k + 15.
 abbrev pub places : ℕ
 places = 32
 
+-- What the handle of place k aims at.
+abbrev pub aimAt : ℕ → Aim
+aimAt k = askedAt (16 * k) .aim
+
 -- Doors and gears of place k.
-unfoldable pub placeOf : ℕ → Place
+abbrev pub placeOf : ℕ → Place
 placeOf k = askedAt (16 * k) .place
 
--- What comes next at place k where these facts are seen: all open is 8, all closed 4, all extended 2, all retracted 1.
-unfoldable pub nextWith : ℕ → ℕ → Place
-nextWith k facts = nextOf (askedAt (16 * k + facts))
+-- Which of doors and gears stay as they were.
+unfoldable pub keptOf : Place → Place → Kept
+keptOf from to =
+    record {
+      doors = eqb (doorsNumber (from .doors)) (doorsNumber (to .doors));
+      gears = eqb (gearsNumber (from .gears)) (gearsNumber (to .gears));
+    }
 
-abbrev pub weightOf : Deciding → ℕ
-weightOf Nothing = 0
-weightOf AllOpen = 8
-weightOf AllClosed = 4
-weightOf AllExtended = 2
-weightOf AllRetracted = 1
+-- Both do.
+abbrev pub stays : Kept → Bool
+stays kept = kept .doors && kept .gears
 
--- Doors, gears, and both are the same.
-abbrev pub sameDoors : Doors → Doors → Bool
-sameDoors d e = eqb (doorsNumber d) (doorsNumber e)
+-- ---- Facts
 
-abbrev pub sameGears : Gears → Gears → Bool
-sameGears g h = eqb (gearsNumber g) (gearsNumber h)
+abbrev seen : Bool → Bool → Bool → Bool → Seen
+seen opened closed extended retracted = record { opened = opened; closed = closed; extended = extended; retracted = retracted }
 
-unfoldable pub samePlace : Place → Place → Bool
-samePlace p q = sameDoors (p .doors) (q .doors) && sameGears (p .gears) (q .gears)
+-- What is seen where a fact is seen by itself.
+abbrev pub alone : Deciding → Seen
+alone Nothing = seen false false false false
+alone AllOpen = seen true false false false
+alone AllClosed = seen false true false false
+alone AllExtended = seen false false true false
+alone AllRetracted = seen false false false true
 
--- A fact, seen by itself, makes a difference at place k.
-unfoldable pub decides : ℕ → Deciding → Bool
-decides k fact = not (samePlace (nextWith k (weightOf fact)) (nextWith k 0))
+-- A fact is named: the page says `if ..` and `else`, not `always`.
+abbrev pub isNamed : Deciding → Bool
+isNamed Nothing = false
+isNamed AllOpen = true
+isNamed AllClosed = true
+isNamed AllExtended = true
+isNamed AllRetracted = true
 
--- The fact that makes a difference at place k.
-unfoldable pub decidingAt : ℕ → Deciding
-decidingAt k =
-    cond (decides k AllOpen) AllOpen
-    (cond (decides k AllClosed) AllClosed
-    (cond (decides k AllExtended) AllExtended (cond (decides k AllRetracted) AllRetracted Nothing)))
+-- A fact, seen by itself, makes a difference where doors and gears stand so and the handle aims so.
+unfoldable pub decides : Aim → Place → Deciding → Bool
+decides aim from fact = not (stays (keptOf (moveOf aim from (alone fact)) (moveOf aim from (alone Nothing))))
+
+-- The fact that makes a difference there.
+unfoldable pub decisive : Aim → Place → Deciding
+decisive aim from =
+    cond (decides aim from AllOpen) AllOpen
+    (cond (decides aim from AllClosed) AllClosed
+    (cond (decides aim from AllExtended) AllExtended
+    (cond (decides aim from AllRetracted) AllRetracted Nothing)))

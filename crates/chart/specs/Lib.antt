@@ -3,4 +3,5 @@ pub mod Csv
 pub mod Differences
 pub mod Page
 pub mod PageCases
+pub mod Room
 pub mod Telling

@@ -3,33 +3,26 @@
 -- Assumes nothing.
 use Prim.Native.Nat.{ℕ, _+_, _*_, _/_, _%_}
 use Prim.Native.String.{String}
-use mathlib.Core.Bool.{Bool, true, false, cond}
+use mathlib.Core.Bool.{Bool, cond}
 use mathlib.Core.List.{List, [], _∷_, _++_, flatten}
-use Rattle.common.specs.Ascii.{ascii}
+use Rattle.common.specs.Ascii.{ascii, lf}
 use Rattle.common.specs.Decimal.{decimal}
 use Rattle.common.specs.Lists.{givenFrom}
-use Rattle.sequence.specs.declared.Doors.{Doors}
-use Rattle.sequence.specs.declared.Gears.{Gears}
+use Rattle.sequence.specs.declared.Aim.{Aim}
 use Rattle.sequence.specs.declared.Place.{Place}
+use Rattle.sequence.specs.Moves.{moveOf}
 use Rattle.sequence.specs.Places.{movingHaveOpen}
-use Rattle.output.specs.Rows.{doorsWord, gearsWord}
+use Rattle.names.specs.Words.{doorsWord, gearsWord}
 use Rattle.chart.specs.declared.differences.Deciding.{Deciding}
 use Rattle.chart.specs.declared.differences.Deciding.the-variants.{Nothing, AllOpen, AllClosed, AllExtended, AllRetracted}
-use Rattle.chart.specs.Differences.{
-  places,
-  placeOf,
-  nextWith,
-  weightOf,
-  sameDoors,
-  sameGears,
-  samePlace,
-  decidingAt,
-}
+use Rattle.chart.specs.declared.differences.Kept.{Kept}
+use Rattle.chart.specs.Differences.{places, aimAt, placeOf, keptOf, stays, alone, isNamed, decisive}
 
 -- ---- A place
 
+-- A line of the file.
 abbrev pub line : List ℕ → List ℕ
-line text = text ++ 10 ∷ []
+line text = text ++ lf ∷ []
 
 -- A word, and the end of a line of text.
 abbrev pub endOfLine : List ℕ → List ℕ
@@ -42,18 +35,12 @@ left k = 420 + 610 * (k % 4)
 abbrev pub top : ℕ → ℕ
 top k = 615 + 385 * (k / 4 % 4) + 1780 * (k / 16)
 
-unfoldable pub cornerText : ℕ → List ℕ
-cornerText k = decimal (left k) ++ ascii " " ++ decimal (top k)
-
 -- Its frame, grey where no reached state is there.
-abbrev pub frameClass : Bool → List ℕ
-frameClass true = ascii "place"
-frameClass false = ascii "never"
-
-unfoldable pub frameText : ℕ → List ℕ
-frameText k =
-    ascii "<g class='" ++ frameClass (movingHaveOpen (placeOf k)) ++ ascii "' transform='translate(" ++ cornerText k ++ line (ascii ")'>")
-    ++ line (ascii "<rect width='590' height='365'/>")
+unfoldable pub frameText : ℕ → Bool → List ℕ
+frameText k possible =
+    ascii "<g class='" ++ cond possible (ascii "place") (ascii "never") ++
+    ascii "' transform='translate(" ++ decimal (left k) ++ ascii " " ++ decimal (top k) ++
+    (line (ascii ")'>") ++ line (ascii "<rect width='590' height='365'/>"))
 
 -- The numbers of its entries.
 unfoldable pub numbersText : ℕ → List ℕ
@@ -68,49 +55,48 @@ whenWord AllClosed = ascii "if all closed"
 whenWord AllExtended = ascii "if all extended"
 whenWord AllRetracted = ascii "if all retracted"
 
+-- A line of it.
+abbrev pub whenLine : List ℕ → List ℕ
+whenLine word = ascii "<text class='when' x='28' y='56'>" ++ endOfLine word
+
 unfoldable pub whenText : Deciding → List ℕ
-whenText fact = ascii "<text class='when' x='28' y='56'>" ++ endOfLine (whenWord fact)
+whenText fact = whenLine (whenWord fact)
 
--- What comes next: bold and blue what changes, or that the place stays.
-abbrev pub changeText : Bool → List ℕ
-changeText true = ascii "<text class='keeps"
-changeText false = ascii "<text class='moves"
+-- The beginning of a line of doors or gears: bold and blue what changes.
+unfoldable pub partBegin : Bool → List ℕ → List ℕ
+partBegin same name =
+    ascii "<text class='" ++ cond same (ascii "keeps") (ascii "moves") ++ ascii "' x='28' y='" ++ name
 
-unfoldable pub doorsText : Doors → Doors → List ℕ
-doorsText from to = changeText (sameDoors from to) ++ ascii "' x='28' y='116'>doors " ++ endOfLine (doorsWord to)
+-- The doors and the gears that come next.
+unfoldable pub partsText : Kept → Place → List ℕ
+partsText kept to =
+    partBegin (kept .doors) (ascii "116'>doors ") ++ doorsWord (to .doors) ++ line (ascii "</text>") ++
+    partBegin (kept .gears) (ascii "174'>gears ") ++ endOfLine (gearsWord (to .gears))
 
-unfoldable pub gearsText : Gears → Gears → List ℕ
-gearsText from to = changeText (sameGears from to) ++ ascii "' x='28' y='174'>gears " ++ endOfLine (gearsWord to)
-
+-- What comes next, or that the place stays.
 unfoldable pub nextText : Place → Place → List ℕ
 nextText from to =
-    cond (samePlace from to)
-    (ascii "<text x='28' y='116'>" ++ endOfLine (ascii "stays"))
-    (doorsText (from .doors) (to .doors) ++ gearsText (from .gears) (to .gears))
+    let kept = keptOf from to in
+    cond (stays kept) (ascii "<text x='28' y='116'>" ++ endOfLine (ascii "stays")) (partsText kept to)
 
 -- What comes next where the fact that makes a difference is not seen.
-unfoldable pub otherwiseText : ℕ → List ℕ
-otherwiseText k =
-    line (ascii "<g transform='translate(0 176)'>") ++ ascii "<text class='when' x='28' y='56'>" ++ endOfLine (ascii "else") ++
-    nextText (placeOf k) (nextWith k 0) ++
-    line (ascii "</g>")
+unfoldable pub elseText : Aim → Place → List ℕ
+elseText aim from =
+    line (ascii "<g transform='translate(0 176)'>") ++ whenLine (ascii "else") ++
+    nextText from (moveOf aim from (alone Nothing)) ++ line (ascii "</g>")
 
-abbrev pub elseText : ℕ → Deciding → List ℕ
-elseText k Nothing = []
-elseText k AllOpen = otherwiseText k
-elseText k AllClosed = otherwiseText k
-elseText k AllExtended = otherwiseText k
-elseText k AllRetracted = otherwiseText k
-
--- What comes next where the fact that makes a difference is seen, and where it is not.
-unfoldable pub bothText : ℕ → Deciding → List ℕ
-bothText k fact = whenText fact ++ nextText (placeOf k) (nextWith k (weightOf fact)) ++ elseText k fact
-
+-- A place with its frame and its numbers: what comes next where the fact that makes a difference is seen, and where it is not.
 unfoldable pub placeText : ℕ → List ℕ
-placeText k = frameText k ++ numbersText k ++ bothText k (decidingAt k) ++ line (ascii "</g>")
+placeText k =
+    let aim = aimAt k in
+    let from = placeOf k in
+    let fact = decisive aim from in
+    frameText k (movingHaveOpen from) ++ numbersText k ++ whenText fact ++ nextText from (moveOf aim from (alone fact)) ++
+    cond (isNamed fact) (elseText aim from) [] ++ line (ascii "</g>")
 
 -- ---- The page
 
+-- Lines, one after the other.
 unfoldable pub lines : List String → List ℕ
 lines [] = []
 lines (text ∷ texts) = line (ascii text) ++ lines texts
@@ -179,5 +165,6 @@ tailLines =
     "</svg>" ∷
     []
 
+-- The head, the places, and the notes.
 unfoldable pub pageText : List ℕ
 pageText = lines headLines ++ flatten (givenFrom placeText 0 places) ++ lines tailLines

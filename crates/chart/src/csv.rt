@@ -1,29 +1,15 @@
 // The table as CSV by RFC 4180: a header, and a row for each entry. The rule is specs/Csv.antt.
-// The text is put together in a buffer of its own, piece by piece, and then handed to the lent one if there is room for it.
+// The text is put piece by piece: every function puts its piece if there is room for it, and at the top there is.
+ghost use mathlib.Core.List.{_∷_, _++_};
 ghost use mathlib.Core.Path.{_≡_};
-ghost use mathlib.Core.List.{_∷_, [], _++_, flatten};
-ghost use Prim.Native.Nat.{_+_, _≤_, _<_};
-ghost use lib.ListN.{length};
-ghost use Rattle.common.specs.Lists.{givenFrom};
-ghost use Rattle.texts.specs.Puts.{Put, putOf};
-ghost use Rattle.output.specs.Rows.{crlf, onOff};
-ghost use Rattle.chart.specs.Csv.{
-  handleFields,
-  doorsFields,
-  gearsFields,
-  placeFields,
-  factFields,
-  askedFields,
-  laterFields,
-  csvRow,
-  csvText,
-};
-use crate::pieces::put;
-use crate::pieces::put_number;
+ghost use Rattle.common.specs.Ascii.{comma, crlf};
+ghost use Rattle.common.specs.Decimal.{decimal};
+ghost use Rattle.sequence.specs.Numbers.{handleNumber};
+ghost use Rattle.texts.specs.Puts.{putOf};
+ghost use Rattle.chart.specs.Csv.{placeFields, factField, factFields, askedFields, behind, csvRow, csvText};
+ghost use Rattle.chart.specs.Room.{PutIfRoom};
 use sequence::Aim;
-use sequence::Asked;
-use sequence::Doors;
-use sequence::Gears;
+use table::Asked;
 use sequence::Place;
 use sequence::Seen;
 
@@ -38,57 +24,88 @@ all_open,all_closed,all_extended,all_retracted,\
 next_doors,next_doors_number,next_gears,next_gears_number,\
 possible\r\n";
 
-// Puts the fields of the handle, each with the comma before it.
-fn put_handle(text: &mut [u8], at: usize, aim: Aim) -> usize
-    requires { ⌜ at + 7 ≤ length (now text) ⌝ }
-    ensures { λ r. ⌜ (r ≤ at + 7) × Put (now (text .entry)) at (laterFields (handleFields aim)) (now (text .exit)) r ⌝ }
+// The text has so many bytes.
+const LENGTH: usize = 32374;
+
+// Puts the table as CSV into a lent buffer: the place after it, or the same place where there is no room for it.
+pub fn put_table(out: &mut [u8], at: usize) -> usize
+    ensures { λ r. ⌜ (r, now (out .exit)) ≡ putOf (now (out .entry)) at csvText ⌝ }
 {
-    match aim {
-        Aim::ToRetracted => put(text, at, b",up,0"),
-        Aim::ToExtended => put(text, at, b",down,1"),
+    let size = out.len();
+    if size < at {
+        return at;
     }
+    if size - at < LENGTH {
+        return at;
+    }
+    put_all(out, at)
 }
 
-// The same for the doors.
-fn put_doors(text: &mut [u8], at: usize, doors: Doors) -> usize
-    requires { ⌜ at + 10 ≤ length (now text) ⌝ }
-    ensures { λ r. ⌜ (r ≤ at + 10) × Put (now (text .entry)) at (laterFields (doorsFields doors)) (now (text .exit)) r ⌝ }
+// Puts the header and all rows.
+fn put_all(text: &mut [u8], at: usize) -> usize
+    ensures { λ r. ⌜ PutIfRoom (now (text .entry)) at csvText (now (text .exit)) r ⌝ }
 {
-    match doors {
-        Doors::Closed => put(text, at, b",CLOSED,0"),
-        Doors::Opening => put(text, at, b",OPENING,1"),
-        Doors::Open => put(text, at, b",OPEN,2"),
-        Doors::Closing => put(text, at, b",CLOSING,3"),
+    let mut next = texts::put(text, at, &HEADER);
+    let mut n = 0;
+    while n < ENTRIES {
+        next = put_row(text, next, n);
+        n += 1;
     }
+    next
 }
 
-// The same for the gears.
-fn put_gears(text: &mut [u8], at: usize, gears: Gears) -> usize
-    requires { ⌜ at + 13 ≤ length (now text) ⌝ }
-    ensures { λ r. ⌜ (r ≤ at + 13) × Put (now (text .entry)) at (laterFields (gearsFields gears)) (now (text .exit)) r ⌝ }
+// Puts the row of an entry.
+fn put_row(text: &mut [u8], at: usize, n: usize) -> usize
+    ensures { λ r. ⌜ PutIfRoom (now (text .entry)) at (csvRow n) (now (text .exit)) r ⌝ }
 {
-    match gears {
-        Gears::Retracted => put(text, at, b",RETRACTED,0"),
-        Gears::Extending => put(text, at, b",EXTENDING,1"),
-        Gears::Extended => put(text, at, b",EXTENDED,2"),
-        Gears::Retracting => put(text, at, b",RETRACTING,3"),
-    }
+    let asked = Asked::numbered(n);
+    let place = asked.place;
+    let last = last_piece(place.moving_have_open());
+    let numbered = texts::put_number(text, at, n as u64);
+    let told = put_asked(text, numbered, asked);
+    let moved = put_place(text, told, asked.next());
+    texts::put(text, moved, &last)
 }
 
-// The same for doors and gears.
+// Puts the fields of what is asked, each with the comma before it.
+fn put_asked(text: &mut [u8], at: usize, asked: Asked) -> usize
+    ensures { λ r. ⌜ PutIfRoom (now (text .entry)) at (behind (askedFields asked)) (now (text .exit)) r ⌝ }
+{
+    let aim = asked.aim;
+    let place = asked.place;
+    let facts = facts_piece(asked.seen);
+    let next = texts::put(text, at, b",");
+    let handled = names::put_handle(text, next, aim);
+    let numbered = put_field(text, handled, handle_number(aim));
+    let placed = put_place(text, numbered, place);
+    texts::put(text, placed, &facts)
+}
+
+// Puts the fields of doors and gears, each with the comma before it.
 fn put_place(text: &mut [u8], at: usize, place: Place) -> usize
-    requires { ⌜ at + 23 ≤ length (now text) ⌝ }
-    ensures { λ r. ⌜ (r ≤ at + 23) × Put (now (text .entry)) at (laterFields (placeFields place)) (now (text .exit)) r ⌝ }
+    ensures { λ r. ⌜ PutIfRoom (now (text .entry)) at (behind (placeFields place)) (now (text .exit)) r ⌝ }
 {
     let doors = place.doors;
     let gears = place.gears;
-    let doored = put_doors(text, at, doors);
-    put_gears(text, doored, gears)
+    let next = texts::put(text, at, b",");
+    let doored = names::put_doors(text, next, doors);
+    let numbered = put_field(text, doored, doors.number() as u64);
+    let next = texts::put(text, numbered, b",");
+    let geared = names::put_gears(text, next, gears);
+    put_field(text, geared, gears.number() as u64)
+}
+
+// Puts the field of a number, with the comma before it.
+fn put_field(text: &mut [u8], at: usize, n: u64) -> usize
+    ensures { λ r. ⌜ PutIfRoom (now (text .entry)) at (comma ∷ decimal n) (now (text .exit)) r ⌝ }
+{
+    let next = texts::put(text, at, b",");
+    texts::put_number(text, next, n)
 }
 
 // The fields of the facts, each with the comma before it.
 fn facts_piece(seen: Seen) -> [u8; 8]
-    ensures { λ r. ⌜ r ≡ laterFields (factFields seen) ⌝ }
+    ensures { λ r. ⌜ r ≡ behind (factFields seen) ⌝ }
 {
     [
         b',',
@@ -104,75 +121,17 @@ fn facts_piece(seen: Seen) -> [u8; 8]
 
 // The field of a place that can be asked, with the comma before it, and the row's end.
 fn last_piece(possible: bool) -> [u8; 4]
-    ensures { λ r. ⌜ r ≡ laterFields (onOff possible ∷ []) ++ crlf ⌝ }
+    ensures { λ r. ⌜ r ≡ comma ∷ (factField possible ++ crlf) ⌝ }
 {
     [b',', texts::on_off(possible), b'\r', b'\n']
 }
 
-// Puts the fields of what is asked, each with the comma before it.
-fn put_asked(text: &mut [u8], at: usize, asked: Asked) -> usize
-    requires { ⌜ at + 38 ≤ length (now text) ⌝ }
-    ensures { λ r. ⌜ (r ≤ at + 38) × Put (now (text .entry)) at (laterFields (askedFields asked)) (now (text .exit)) r ⌝ }
+// Handle up is 0, down is 1.
+fn handle_number(aim: Aim) -> u64
+    ensures { λ r. ⌜ r ≡ handleNumber aim ⌝ }
 {
-    let aim = asked.aim;
-    let place = asked.place;
-    let seen = asked.seen;
-    let facts = facts_piece(seen);
-    let handled = put_handle(text, at, aim);
-    let placed = put_place(text, handled, place);
-    put(text, placed, &facts)
-}
-
-// Puts the row of an entry: at most 20 bytes of its number, 38 of what is asked, 23 of what comes next and 4 of its end.
-fn put_row(text: &mut [u8], at: usize, n: usize) -> usize
-    requires { ⌜ at + 85 ≤ length (now text) ⌝ }
-    ensures { λ r. ⌜ (r ≤ at + 85) × Put (now (text .entry)) at (csvRow n) (now (text .exit)) r ⌝ }
-{
-    let asked = Asked::numbered(n);
-    let place = asked.place;
-    let next = asked.next();
-    let last = last_piece(place.moving_have_open());
-    let numbered = put_number(text, at, n);
-    let told = put_asked(text, numbered, asked);
-    let done = put_place(text, told, next);
-    put(text, done, &last)
-}
-
-// Puts the rows of all entries.
-fn put_rows(text: &mut [u8], at: usize) -> usize
-    requires { ⌜ at + 43520 ≤ length (now text) ⌝ }
-    ensures { λ r. ⌜ (r ≤ at + 43520) × Put (now (text .entry)) at (flatten (givenFrom csvRow 0 512)) (now (text .exit)) r ⌝ }
-{
-    let mut next = at;
-    let mut n = 0;
-    while n < ENTRIES {
-        next = put_row(text, next, n);
-        n += 1;
+    match aim {
+        Aim::ToRetracted => 0,
+        Aim::ToExtended => 1,
     }
-    next
-}
-
-// Puts the header and all rows.
-fn put_all(text: &mut [u8]) -> usize
-    requires { ⌜ 43700 ≤ length (now text) ⌝ }
-    ensures { λ r. ⌜ (r ≤ 43700) × Put (now (text .entry)) 0 csvText (now (text .exit)) r ⌝ }
-{
-    let headed = put(text, 0, &HEADER);
-    put_rows(text, headed)
-}
-
-// Room for all of it.
-fn room() -> [u8; 43700]
-    ensures { λ r. ⌜ 43700 ≡ length r ⌝ }
-{
-    [0; 43700]
-}
-
-// Puts the table as CSV into a lent buffer: the place after it, or the same place where there is no room for it.
-pub fn put_table(out: &mut [u8], at: usize) -> usize
-    ensures { λ r. ⌜ (r, now (out .exit)) ≡ putOf (now (out .entry)) at csvText ⌝ }
-{
-    let mut text = room();
-    let end = put_all(&mut text);
-    texts::put(out, at, &text[..end])
 }

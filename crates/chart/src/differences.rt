@@ -1,21 +1,11 @@
 // What comes next at a place of handle, doors and gears, and the fact that makes a difference there. The rule is
 // specs/Differences.antt.
+ghost use mathlib.Core.Bool.{cond};
 ghost use mathlib.Core.Path.{_≡_};
-ghost use Prim.Native.Nat.{_<_};
-ghost use Rattle.chart.specs.Differences.{
-  placeOf,
-  nextWith,
-  weightOf,
-  sameDoors,
-  sameGears,
-  samePlace,
-  decides,
-  decidingAt,
-};
-use sequence::Asked;
-use sequence::Doors;
-use sequence::Gears;
+ghost use Rattle.chart.specs.Differences.{keptOf, alone, isNamed, decides, decisive};
+use sequence::Aim;
 use sequence::Place;
+use sequence::Seen;
 
 // The fact that makes a difference at a place.
 pub enum Deciding {
@@ -26,88 +16,96 @@ pub enum Deciding {
     AllRetracted,
 }
 
-// Doors and gears of place k.
-pub(crate) fn place_of(k: usize) -> Place
-    requires { ⌜ k < 32 ⌝ }
-    ensures { λ r. ⌜ r ≡ placeOf k ⌝ }
-{
-    let asked = Asked::numbered(16 * k);
-    asked.place
+// Which of doors and gears stay as they were.
+pub struct Kept {
+    pub doors: bool,
+    pub gears: bool,
 }
 
-// What comes next at place k where these facts are seen.
-pub(crate) fn next_with(k: usize, facts: usize) -> Place
-    requires { ⌜ (k < 32) × (facts < 16) ⌝ }
-    ensures { λ r. ⌜ r ≡ nextWith k facts ⌝ }
+// Which of doors and gears stay as they were.
+pub(crate) fn compared(from: Place, to: Place) -> Kept
+    ensures { λ r. ⌜ r ≡ keptOf from to ⌝ }
 {
-    let asked = Asked::numbered(16 * k + facts);
-    asked.next()
+    let doors = from.doors;
+    let gears = from.gears;
+    let next_doors = to.doors;
+    let next_gears = to.gears;
+    Kept {
+        doors: doors.number() == next_doors.number(),
+        gears: gears.number() == next_gears.number(),
+    }
 }
 
-// Among the facts of an entry's number.
-pub(crate) fn weight_of(fact: Deciding) -> usize
-    ensures { λ r. ⌜ r ≡ weightOf fact ⌝ }
+// What is seen where a fact is seen by itself.
+pub(crate) fn alone(fact: Deciding) -> Seen
+    ensures { λ r. ⌜ r ≡ alone fact ⌝ }
 {
     match fact {
-        Deciding::Nothing => 0,
-        Deciding::AllOpen => 8,
-        Deciding::AllClosed => 4,
-        Deciding::AllExtended => 2,
-        Deciding::AllRetracted => 1,
+        Deciding::Nothing => Seen {
+            opened: false,
+            closed: false,
+            extended: false,
+            retracted: false,
+        },
+        Deciding::AllOpen => Seen {
+            opened: true,
+            closed: false,
+            extended: false,
+            retracted: false,
+        },
+        Deciding::AllClosed => Seen {
+            opened: false,
+            closed: true,
+            extended: false,
+            retracted: false,
+        },
+        Deciding::AllExtended => Seen {
+            opened: false,
+            closed: false,
+            extended: true,
+            retracted: false,
+        },
+        Deciding::AllRetracted => Seen {
+            opened: false,
+            closed: false,
+            extended: false,
+            retracted: true,
+        },
     }
 }
 
-// Whether the doors are the same.
-pub(crate) fn same_doors(a: Doors, b: Doors) -> bool
-    ensures { λ r. ⌜ r ≡ sameDoors a b ⌝ }
+// Whether a fact is named.
+pub(crate) fn is_named(fact: Deciding) -> bool
+    ensures { λ r. ⌜ r ≡ isNamed fact ⌝ }
 {
-    a.number() == b.number()
+    match fact {
+        Deciding::Nothing => false,
+        Deciding::AllOpen => true,
+        Deciding::AllClosed => true,
+        Deciding::AllExtended => true,
+        Deciding::AllRetracted => true,
+    }
 }
 
-// Whether the gears are the same.
-pub(crate) fn same_gears(a: Gears, b: Gears) -> bool
-    ensures { λ r. ⌜ r ≡ sameGears a b ⌝ }
+// A fact, if it makes a difference there, and else the rest.
+fn first_of(aim: Aim, from: Place, fact: Deciding, rest: Deciding) -> Deciding
+    ensures { λ r. ⌜ r ≡ cond (decides aim from fact) fact rest ⌝ }
 {
-    a.number() == b.number()
+    let with = from.moved(aim, alone(fact));
+    let without = from.moved(aim, alone(Deciding::Nothing));
+    let same = compared(with, without);
+    if same.doors & same.gears {
+        return rest;
+    }
+    fact
 }
 
-// Whether both are.
-pub(crate) fn same_place(a: Place, b: Place) -> bool
-    ensures { λ r. ⌜ r ≡ samePlace a b ⌝ }
+// The fact that makes a difference where doors and gears stand so and the handle aims so.
+pub(crate) fn decisive(aim: Aim, from: Place) -> Deciding
+    ensures { λ r. ⌜ r ≡ decisive aim from ⌝ }
 {
-    let doors = a.doors;
-    let gears = a.gears;
-    let other_doors = b.doors;
-    let other_gears = b.gears;
-    same_doors(doors, other_doors) & same_gears(gears, other_gears)
-}
-
-// Whether a fact, seen by itself, makes a difference at place k.
-fn decides(k: usize, fact: Deciding) -> bool
-    requires { ⌜ k < 32 ⌝ }
-    ensures { λ r. ⌜ r ≡ decides k fact ⌝ }
-{
-    let seen = next_with(k, weight_of(fact));
-    let unseen = next_with(k, 0);
-    !same_place(seen, unseen)
-}
-
-// The fact that makes a difference at place k.
-pub(crate) fn deciding_at(k: usize) -> Deciding
-    requires { ⌜ k < 32 ⌝ }
-    ensures { λ r. ⌜ r ≡ decidingAt k ⌝ }
-{
-    if decides(k, Deciding::AllOpen) {
-        return Deciding::AllOpen;
-    }
-    if decides(k, Deciding::AllClosed) {
-        return Deciding::AllClosed;
-    }
-    if decides(k, Deciding::AllExtended) {
-        return Deciding::AllExtended;
-    }
-    if decides(k, Deciding::AllRetracted) {
-        return Deciding::AllRetracted;
-    }
-    Deciding::Nothing
+    let retracted = first_of(aim, from, Deciding::AllRetracted, Deciding::Nothing);
+    let extended = first_of(aim, from, Deciding::AllExtended, retracted);
+    let closed = first_of(aim, from, Deciding::AllClosed, extended);
+    first_of(aim, from, Deciding::AllOpen, closed)
 }

@@ -1,6 +1,5 @@
 // The sequence's table for the wall (request K4): as CSV, and as a page to print. Both are written from what the table tells
-// (`sequence::Asked::next`), which is what the controller runs.
+// (`table::Asked::next`), which is what the controller runs.
 pub mod csv;
 mod differences;
 pub mod page;
-mod pieces;

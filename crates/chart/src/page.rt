@@ -1,39 +1,29 @@
 // The table as a page to print (SVG, A3 upright). The rule is specs/Page.antt.
-// The text is put together in a buffer of its own, piece by piece, and then handed to the lent one if there is room for it.
+// The text is put piece by piece: every function puts its piece if there is room for it, and at the top there is.
+ghost use mathlib.Core.Bool.{cond};
+ghost use mathlib.Core.List.{[]};
 ghost use mathlib.Core.Path.{_≡_};
-ghost use mathlib.Core.List.{flatten};
-ghost use Prim.Native.Nat.{_+_, _≤_, _<_};
-ghost use lib.ListN.{length};
-ghost use Rattle.common.specs.Lists.{givenFrom};
-ghost use Rattle.texts.specs.Puts.{Put, putOf};
-ghost use Rattle.output.specs.Rows.{doorsWord, gearsWord};
+ghost use Rattle.texts.specs.Puts.{putOf};
+ghost use Rattle.chart.specs.Differences.{isNamed};
 ghost use Rattle.chart.specs.Page.{
-  cornerText,
-  frameClass,
   frameText,
   numbersText,
   whenText,
-  changeText,
-  endOfLine,
-  doorsText,
-  gearsText,
+  partBegin,
   nextText,
-  otherwiseText,
   elseText,
-  bothText,
   placeText,
   pageText,
 };
+ghost use Rattle.chart.specs.Room.{PutIfRoom};
 use crate::differences;
 use crate::differences::Deciding;
-use crate::pieces::put;
-use crate::pieces::put_number;
-use sequence::Doors;
-use sequence::Gears;
+use sequence::Aim;
+use table::Asked;
 use sequence::Place;
 
 // There are so many places of handle, doors and gears.
-const PLACES: usize = 32;
+const PLACES: u8 = 32;
 
 // The size, the styles, the title, and the headings of columns and rows.
 const HEAD: [u8; 2598] =
@@ -95,79 +85,121 @@ const TAIL: [u8; 567] =
 <text class='note' x='120' y='4151'>Small numbers: the entries of the table that runs, 16 at each place, 512 in all. This page is written from it.</text>\n\
 </svg>\n";
 
-// Puts whether a reached state can be at a place.
-fn put_frame_class(text: &mut [u8], at: usize, possible: bool) -> usize
-    requires { ⌜ at + 5 ≤ length (now text) ⌝ }
-    ensures { λ r. ⌜ (r ≤ at + 5) × Put (now (text .entry)) at (frameClass possible) (now (text .exit)) r ⌝ }
+// What a line of text ends in.
+const END: [u8; 8] = *b"</text>\n";
+
+// The page has so many bytes.
+const LENGTH: usize = 13935;
+
+// Puts the page into a lent buffer: the place after it, or the same place where there is no room for it.
+pub fn put_page(out: &mut [u8], at: usize) -> usize
+    ensures { λ r. ⌜ (r, now (out .exit)) ≡ putOf (now (out .entry)) at pageText ⌝ }
 {
-    if possible {
-        return put(text, at, b"place");
+    let size = out.len();
+    if size < at {
+        return at;
     }
-    put(text, at, b"never")
+    if size - at < LENGTH {
+        return at;
+    }
+    put_all(out, at)
 }
 
-// Puts where place k stands on the page.
-fn put_corner(text: &mut [u8], at: usize, k: usize) -> usize
-    requires { ⌜ (k < 32) × (at + 41 ≤ length (now text)) ⌝ }
-    ensures { λ r. ⌜ (r ≤ at + 41) × Put (now (text .entry)) at (cornerText k) (now (text .exit)) r ⌝ }
+// Puts the head, all places and the notes.
+fn put_all(text: &mut [u8], at: usize) -> usize
+    ensures { λ r. ⌜ PutIfRoom (now (text .entry)) at pageText (now (text .exit)) r ⌝ }
 {
-    let across = put_number(text, at, 420 + 610 * (k % 4));
-    let spaced = put(text, across, b" ");
-    put_number(text, spaced, 615 + 385 * (k / 4 % 4) + 1780 * (k / 16))
+    let mut next = texts::put(text, at, &HEAD);
+    let mut k = 0;
+    while k < PLACES {
+        next = put_place(text, next, k);
+        k += 1;
+    }
+    texts::put(text, next, &TAIL)
 }
 
-// Puts its frame.
-fn put_frame(text: &mut [u8], at: usize, k: usize) -> usize
-    requires { ⌜ (k < 32) × (at + 121 ≤ length (now text)) ⌝ }
-    ensures { λ r. ⌜ (r ≤ at + 121) × Put (now (text .entry)) at (frameText k) (now (text .exit)) r ⌝ }
+// Puts place k.
+fn put_place(text: &mut [u8], at: usize, k: u8) -> usize
+    ensures { λ r. ⌜ PutIfRoom (now (text .entry)) at (placeText k) (now (text .exit)) r ⌝ }
 {
-    let place = differences::place_of(k);
-    let opened = put(text, at, b"<g class='");
-    let classed = put_frame_class(text, opened, place.moving_have_open());
-    let moved = put(text, classed, b"' transform='translate(");
-    let placed = put_corner(text, moved, k);
-    put(text, placed, b")'>\n<rect width='590' height='365'/>\n")
+    let asked = Asked::numbered(16 * (k as usize));
+    let aim = asked.aim;
+    let from = asked.place;
+    let fact = differences::decisive(aim, from);
+    let framed = put_frame(text, at, k, from.moving_have_open());
+    let numbered = put_numbers(text, framed, k);
+    let said = put_when(text, numbered, fact);
+    let told = put_next(text, said, from, from.moved(aim, differences::alone(fact)));
+    let done = put_else(text, told, aim, from, fact);
+    texts::put(text, done, b"</g>\n")
+}
+
+// One of two words of five letters.
+fn either(first: bool, one: [u8; 5], other: [u8; 5]) -> [u8; 5]
+    ensures { λ r. ⌜ r ≡ cond first one other ⌝ }
+{
+    if first {
+        return one;
+    }
+    other
+}
+
+// Puts the frame of place k, grey where no reached state is there.
+fn put_frame(text: &mut [u8], at: usize, k: u8, possible: bool) -> usize
+    ensures { λ r. ⌜ PutIfRoom (now (text .entry)) at (frameText k possible) (now (text .exit)) r ⌝ }
+{
+    let class = either(possible, *b"place", *b"never");
+    let opened = texts::put(text, at, b"<g class='");
+    let classed = texts::put(text, opened, &class);
+    let moved = texts::put(text, classed, b"' transform='translate(");
+    let across = texts::put_number(text, moved, 420 + 610 * ((k % 4) as u64));
+    let spaced = texts::put(text, across, b" ");
+    let down = texts::put_number(
+        text,
+        spaced,
+        615 + 385 * ((k / 4 % 4) as u64) + 1780 * ((k / 16) as u64),
+    );
+    texts::put(text, down, b")'>\n<rect width='590' height='365'/>\n")
 }
 
 // Puts the numbers of its entries.
-fn put_numbers(text: &mut [u8], at: usize, k: usize) -> usize
-    requires { ⌜ (k < 32) × (at + 90 ≤ length (now text)) ⌝ }
-    ensures { λ r. ⌜ (r ≤ at + 90) × Put (now (text .entry)) at (numbersText k) (now (text .exit)) r ⌝ }
+fn put_numbers(text: &mut [u8], at: usize, k: u8) -> usize
+    ensures { λ r. ⌜ PutIfRoom (now (text .entry)) at (numbersText k) (now (text .exit)) r ⌝ }
 {
-    let opened = put(text, at, b"<text class='numbers' x='570' y='50'>");
-    let first = put_number(text, opened, 16 * k);
-    let to = put(text, first, b" to ");
-    let last = put_number(text, to, 16 * k + 15);
-    put(text, last, b"</text>\n")
+    let n = 16 * (k as u64);
+    let opened = texts::put(text, at, b"<text class='numbers' x='570' y='50'>");
+    let first = texts::put_number(text, opened, n);
+    let to = texts::put(text, first, b" to ");
+    let last = texts::put_number(text, to, n + 15);
+    texts::put(text, last, &END)
 }
 
 // Puts when something comes next.
 fn put_when(text: &mut [u8], at: usize, fact: Deciding) -> usize
-    requires { ⌜ at + 57 ≤ length (now text) ⌝ }
-    ensures { λ r. ⌜ (r ≤ at + 57) × Put (now (text .entry)) at (whenText fact) (now (text .exit)) r ⌝ }
+    ensures { λ r. ⌜ PutIfRoom (now (text .entry)) at (whenText fact) (now (text .exit)) r ⌝ }
 {
     match fact {
-        Deciding::Nothing => put(
+        Deciding::Nothing => texts::put(
             text,
             at,
             b"<text class='when' x='28' y='56'>always</text>\n",
         ),
-        Deciding::AllOpen => put(
+        Deciding::AllOpen => texts::put(
             text,
             at,
             b"<text class='when' x='28' y='56'>if all open</text>\n",
         ),
-        Deciding::AllClosed => put(
+        Deciding::AllClosed => texts::put(
             text,
             at,
             b"<text class='when' x='28' y='56'>if all closed</text>\n",
         ),
-        Deciding::AllExtended => put(
+        Deciding::AllExtended => texts::put(
             text,
             at,
             b"<text class='when' x='28' y='56'>if all extended</text>\n",
         ),
-        Deciding::AllRetracted => put(
+        Deciding::AllRetracted => texts::put(
             text,
             at,
             b"<text class='when' x='28' y='56'>if all retracted</text>\n",
@@ -175,174 +207,48 @@ fn put_when(text: &mut [u8], at: usize, fact: Deciding) -> usize
     }
 }
 
-// Puts the beginning of a line of what comes next, by whether it is the same.
-fn put_change(text: &mut [u8], at: usize, same: bool) -> usize
-    requires { ⌜ at + 18 ≤ length (now text) ⌝ }
-    ensures { λ r. ⌜ (r ≤ at + 18) × Put (now (text .entry)) at (changeText same) (now (text .exit)) r ⌝ }
+// Puts the beginning of a line of doors or gears, by whether they stay.
+fn put_begin(text: &mut [u8], at: usize, stays: bool, name: &[u8]) -> usize
+    ensures { λ r. ⌜ PutIfRoom (now (text .entry)) at (partBegin stays (now (name .entry))) (now (text .exit)) r ⌝ }
 {
-    if same {
-        return put(text, at, b"<text class='keeps");
-    }
-    put(text, at, b"<text class='moves")
-}
-
-// Puts the doors' word and the line's end.
-fn put_doors_word(text: &mut [u8], at: usize, doors: Doors) -> usize
-    requires { ⌜ at + 15 ≤ length (now text) ⌝ }
-    ensures { λ r. ⌜ (r ≤ at + 15) × Put (now (text .entry)) at (endOfLine (doorsWord doors)) (now (text .exit)) r ⌝ }
-{
-    match doors {
-        Doors::Closed => put(text, at, b"CLOSED</text>\n"),
-        Doors::Opening => put(text, at, b"OPENING</text>\n"),
-        Doors::Open => put(text, at, b"OPEN</text>\n"),
-        Doors::Closing => put(text, at, b"CLOSING</text>\n"),
-    }
-}
-
-// Puts the gears' word and the line's end.
-fn put_gears_word(text: &mut [u8], at: usize, gears: Gears) -> usize
-    requires { ⌜ at + 18 ≤ length (now text) ⌝ }
-    ensures { λ r. ⌜ (r ≤ at + 18) × Put (now (text .entry)) at (endOfLine (gearsWord gears)) (now (text .exit)) r ⌝ }
-{
-    match gears {
-        Gears::Retracted => put(text, at, b"RETRACTED</text>\n"),
-        Gears::Extending => put(text, at, b"EXTENDING</text>\n"),
-        Gears::Extended => put(text, at, b"EXTENDED</text>\n"),
-        Gears::Retracting => put(text, at, b"RETRACTING</text>\n"),
-    }
-}
-
-// Puts the doors that come next.
-fn put_doors(text: &mut [u8], at: usize, from: Doors, to: Doors) -> usize
-    requires { ⌜ at + 57 ≤ length (now text) ⌝ }
-    ensures { λ r. ⌜ (r ≤ at + 57) × Put (now (text .entry)) at (doorsText from to) (now (text .exit)) r ⌝ }
-{
-    let begun = put_change(text, at, differences::same_doors(from, to));
-    let named = put(text, begun, b"' x='28' y='116'>doors ");
-    put_doors_word(text, named, to)
-}
-
-// Puts the gears that come next.
-fn put_gears(text: &mut [u8], at: usize, from: Gears, to: Gears) -> usize
-    requires { ⌜ at + 60 ≤ length (now text) ⌝ }
-    ensures { λ r. ⌜ (r ≤ at + 60) × Put (now (text .entry)) at (gearsText from to) (now (text .exit)) r ⌝ }
-{
-    let begun = put_change(text, at, differences::same_gears(from, to));
-    let named = put(text, begun, b"' x='28' y='174'>gears ");
-    put_gears_word(text, named, to)
+    let class = either(stays, *b"keeps", *b"moves");
+    let opened = texts::put(text, at, b"<text class='");
+    let classed = texts::put(text, opened, &class);
+    let placed = texts::put(text, classed, b"' x='28' y='");
+    texts::put(text, placed, name)
 }
 
 // Puts what comes next, or that the place stays.
 fn put_next(text: &mut [u8], at: usize, from: Place, to: Place) -> usize
-    requires { ⌜ at + 120 ≤ length (now text) ⌝ }
-    ensures { λ r. ⌜ (r ≤ at + 120) × Put (now (text .entry)) at (nextText from to) (now (text .exit)) r ⌝ }
+    ensures { λ r. ⌜ PutIfRoom (now (text .entry)) at (nextText from to) (now (text .exit)) r ⌝ }
 {
-    if differences::same_place(from, to) {
-        return put(text, at, b"<text x='28' y='116'>stays</text>\n");
+    let kept = differences::compared(from, to);
+    if kept.doors & kept.gears {
+        return texts::put(text, at, b"<text x='28' y='116'>stays</text>\n");
     }
-    let from_doors = from.doors;
-    let from_gears = from.gears;
     let doors = to.doors;
     let gears = to.gears;
-    let doored = put_doors(text, at, from_doors, doors);
-    put_gears(text, doored, from_gears, gears)
+    let begun = put_begin(text, at, kept.doors, b"116'>doors ");
+    let said = names::put_doors(text, begun, doors);
+    let ended = texts::put(text, said, &END);
+    let begun = put_begin(text, ended, kept.gears, b"174'>gears ");
+    let said = names::put_gears(text, begun, gears);
+    texts::put(text, said, &END)
 }
 
-// Puts what comes next where the fact that makes a difference is not seen.
-fn put_otherwise(text: &mut [u8], at: usize, k: usize) -> usize
-    requires { ⌜ (k < 32) × (at + 210 ≤ length (now text)) ⌝ }
-    ensures { λ r. ⌜ (r ≤ at + 210) × Put (now (text .entry)) at (otherwiseText k) (now (text .exit)) r ⌝ }
+// Puts what comes next where the fact that makes a difference is not seen; where none does, nothing.
+fn put_else(text: &mut [u8], at: usize, aim: Aim, from: Place, fact: Deciding) -> usize
+    ensures { λ r. ⌜ PutIfRoom (now (text .entry)) at (cond (isNamed fact) (elseText aim from) []) (now (text .exit)) r ⌝ }
 {
-    let begun = put(
-        text,
-        at,
-        b"<g transform='translate(0 176)'>\n<text class='when' x='28' y='56'>else</text>\n",
-    );
-    let told = put_next(
-        text,
-        begun,
-        differences::place_of(k),
-        differences::next_with(k, 0),
-    );
-    put(text, told, b"</g>\n")
-}
-
-// The same where a fact makes a difference, and else nothing.
-fn put_else(text: &mut [u8], at: usize, k: usize, fact: Deciding) -> usize
-    requires { ⌜ (k < 32) × (at + 210 ≤ length (now text)) ⌝ }
-    ensures { λ r. ⌜ (r ≤ at + 210) × Put (now (text .entry)) at (elseText k fact) (now (text .exit)) r ⌝ }
-{
-    match fact {
-        Deciding::Nothing => at,
-        Deciding::AllOpen => put_otherwise(text, at, k),
-        Deciding::AllClosed => put_otherwise(text, at, k),
-        Deciding::AllExtended => put_otherwise(text, at, k),
-        Deciding::AllRetracted => put_otherwise(text, at, k),
+    if differences::is_named(fact) {
+        let begun = texts::put(
+            text,
+            at,
+            b"<g transform='translate(0 176)'>\n<text class='when' x='28' y='56'>else</text>\n",
+        );
+        let none = differences::alone(Deciding::Nothing);
+        let told = put_next(text, begun, from, from.moved(aim, none));
+        return texts::put(text, told, b"</g>\n");
     }
-}
-
-// Puts what comes next where the fact that makes a difference is seen, and where it is not.
-fn put_both(text: &mut [u8], at: usize, k: usize, fact: Deciding) -> usize
-    requires { ⌜ (k < 32) × (at + 387 ≤ length (now text)) ⌝ }
-    ensures { λ r. ⌜ (r ≤ at + 387) × Put (now (text .entry)) at (bothText k fact) (now (text .exit)) r ⌝ }
-{
-    let said = put_when(text, at, fact);
-    let told = put_next(
-        text,
-        said,
-        differences::place_of(k),
-        differences::next_with(k, differences::weight_of(fact)),
-    );
-    put_else(text, told, k, fact)
-}
-
-// Puts place k.
-fn put_place(text: &mut [u8], at: usize, k: usize) -> usize
-    requires { ⌜ (k < 32) × (at + 603 ≤ length (now text)) ⌝ }
-    ensures { λ r. ⌜ (r ≤ at + 603) × Put (now (text .entry)) at (placeText k) (now (text .exit)) r ⌝ }
-{
-    let framed = put_frame(text, at, k);
-    let numbered = put_numbers(text, framed, k);
-    let told = put_both(text, numbered, k, differences::deciding_at(k));
-    put(text, told, b"</g>\n")
-}
-
-// Puts all places.
-fn put_places(text: &mut [u8], at: usize) -> usize
-    requires { ⌜ at + 19296 ≤ length (now text) ⌝ }
-    ensures { λ r. ⌜ (r ≤ at + 19296) × Put (now (text .entry)) at (flatten (givenFrom placeText 0 32)) (now (text .exit)) r ⌝ }
-{
-    let mut next = at;
-    let mut k = 0;
-    while k < PLACES {
-        next = put_place(text, next, k);
-        k += 1;
-    }
-    next
-}
-
-// Puts the whole page.
-fn put_all(text: &mut [u8]) -> usize
-    requires { ⌜ 22461 ≤ length (now text) ⌝ }
-    ensures { λ r. ⌜ (r ≤ 22461) × Put (now (text .entry)) 0 pageText (now (text .exit)) r ⌝ }
-{
-    let headed = put(text, 0, &HEAD);
-    let placed = put_places(text, headed);
-    put(text, placed, &TAIL)
-}
-
-// Room for all of it.
-fn room() -> [u8; 22461]
-    ensures { λ r. ⌜ 22461 ≡ length r ⌝ }
-{
-    [0; 22461]
-}
-
-// Puts the page into a lent buffer: the place after it, or the same place where there is no room for it.
-pub fn put_page(out: &mut [u8], at: usize) -> usize
-    ensures { λ r. ⌜ (r, now (out .exit)) ≡ putOf (now (out .entry)) at pageText ⌝ }
-{
-    let mut text = room();
-    let end = put_all(&mut text);
-    texts::put(out, at, &text[..end])
+    at
 }

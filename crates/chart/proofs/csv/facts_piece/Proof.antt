@@ -1,24 +1,12 @@
 -- `chart::csv::facts_piece` meets its contract: each fact's byte is what `on_off` promises.
 -- Assumes nothing.
-use Rattle.chart.specs.Csv.{laterFields}
+use Rattle.common.specs.Ascii.{joinedByCommas}
 use borrow.Author.Needs.{needs}
 use Rattle.chart.proofs.csv.facts_piece.Statement.{statement}
 use Rattle.chart.proofs.csv.facts_piece.Tie as tie
 
-on-off-requires : tie.Need-on-off-requires
-on-off-requires c κs = search needs
-
-on-off-requires-2 : tie.Need-on-off-requires-2
-on-off-requires-2 c κs = search needs
-
-on-off-requires-3 : tie.Need-on-off-requires-3
-on-off-requires-3 c κs = search needs
-
-on-off-requires-4 : tie.Need-on-off-requires-4
-on-off-requires-4 c κs = search needs
-
 returns : tie.Need-returns
-unfolding laterFields
+unfolding joinedByCommas
 returns c =
     simp (
       c .before .before .before .on-off .ensures,
@@ -28,6 +16,4 @@ returns c =
     )
 
 pub facts-piece-spec : {M : Type 1} → statement M
-facts-piece-spec =
-    tie.close
-    (tie.spec on-off-requires on-off-requires-2 on-off-requires-3 on-off-requires-4 returns)
+facts-piece-spec = tie.close (tie.spec (λ c κs. search needs) (λ c κs. search needs) (λ c κs. search needs) (λ c κs. search needs) returns)

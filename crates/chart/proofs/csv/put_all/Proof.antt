@@ -1,34 +1,43 @@
--- `chart::csv::put_all` meets its contract: the header, and then the rows.
+-- `chart::csv::put_all` meets its contract: the header, and after n turns the rows of the first n entries.
 -- Assumes nothing.
+use Prim.Native.Nat.{ℕ, _-_, _≤_}
 use native.Mathlib.Omega.{arith}
+use mathlib.Core.List.{flatten}
+use mathlib.Core.Path.{_≡_, refl, ap}
+use lib.ListN.{length}
+use Rattle.common.specs.Lists.{givenFrom}
+use Rattle.common.proofs.Given.{text-turn}
 use Rattle.common.specs.Ascii.{joinedByCommas}
-use Rattle.texts.proofs.Placing.{then}
-use Rattle.chart.specs.Csv.{csvHeader, csvText}
+use Rattle.chart.specs.Csv.{csvHeader, csvRow, csvText}
+use Rattle.chart.specs.Room.{PutIfRoom}
+use Rattle.chart.proofs.Pieces.{nothing, same, put, and}
 use borrow.Author.Needs.{needs}
 use Rattle.chart.proofs.csv.put_all.Statement.{statement}
 use Rattle.chart.proofs.csv.put_all.Tie as tie
 
-slice-aggregate-put : tie.Need-slice-aggregate-put
-slice-aggregate-put c = search needs
+abbrev Inv-loop : tie.InvT-loop
+Inv-loop text₀ at next₀ n₀ text next n =
+    (n ≤ 512) × (length text ≡ length text₀) × PutIfRoom text₀ next₀ (flatten (givenFrom csvRow 0 n)) text next
 
-put-requires : tie.Need-put-requires
-put-requires c κs = search needs
+abbrev μ-loop : tie.MeasureT-loop
+μ-loop text₀ at next₀ n₀ text next n = 512 - n
 
-put-rows-requires : tie.Need-put-rows-requires
-put-rows-requires c κs = search needs
+loop-holds : tie.Need-loop-holds Inv-loop μ-loop
+unfolding givenFrom flatten
+loop-holds c = (omega arith, refl, nothing _ _)
 
-same-length : tie.Need-same-length
-same-length c = search needs
+loop-again : tie.Need-loop-again Inv-loop μ-loop
+loop-again c =
+    let one = c .before .before in
+    let l = one .before .before .before .loop in
+    (omega arith, omega arith, same (text-turn csvRow (l .n)) (and (l .inv .2) (one .put-row .ensures)))
 
-returns : tie.Need-returns
-unfolding csvText csvHeader joinedByCommas
+returns : tie.Need-returns Inv-loop μ-loop
+unfolding joinedByCommas csvHeader csvText
 returns c =
-    let rows = c .before .before in
-    let head = rows .before .before .before .before in
-    let one = head .put .ensures in
-    let two = rows .put-rows .ensures in
-    (omega (arith, one .place, two .0), then one (two .1))
+    let l = c .before .loop in
+    let all : l .n ≡ 512 = omega arith in
+    and (put (c .before .before .before .before .put .ensures)) (same (ap (λ (k : ℕ). flatten (givenFrom csvRow 0 k)) all) (l .inv .2))
 
 pub put-all-spec : {M : Type 1} → statement M
-put-all-spec =
-    tie.close (tie.spec slice-aggregate-put put-requires put-rows-requires same-length returns)
+put-all-spec = tie.close (tie.spec Inv-loop μ-loop (λ c. search needs) (λ c κs. search needs) loop-holds (λ c κs. search needs) (λ c. search needs) (λ c. search needs) loop-again (λ c. search needs) returns)

@@ -1,49 +1,45 @@
--- `chart::page::put_all` meets its contract: the head, all places, and the notes.
+-- `chart::page::put_all` meets its contract: the head, after k turns the first k places, and the notes.
 -- Assumes nothing.
+use Prim.Native.Nat.{ℕ, _-_, _≤_}
 use native.Mathlib.Omega.{arith}
-use Rattle.texts.proofs.Placing.{then}
-use Rattle.chart.specs.Page.{lines, headLines, tailLines, pageText}
+use mathlib.Core.List.{flatten}
+use mathlib.Core.Path.{_≡_, refl, ap}
+use lib.ListN.{length}
+use Rattle.common.specs.Lists.{givenFrom}
+use Rattle.common.proofs.Given.{text-turn}
+use Rattle.chart.specs.Page.{placeText, lines, headLines, tailLines, pageText}
+use Rattle.chart.specs.Room.{PutIfRoom}
+use Rattle.chart.proofs.Pieces.{nothing, same, put, and}
 use borrow.Author.Needs.{needs}
 use Rattle.chart.proofs.page.put_all.Statement.{statement}
 use Rattle.chart.proofs.page.put_all.Tie as tie
 
-slice-aggregate-put : tie.Need-slice-aggregate-put
-slice-aggregate-put c = search needs
+abbrev Inv-loop : tie.InvT-loop
+Inv-loop text₀ at next₀ k₀ _ text next k =
+    (k ≤ 32) × (length text ≡ length text₀) × PutIfRoom text₀ next₀ (flatten (givenFrom placeText 0 k)) text next
 
-put-requires : tie.Need-put-requires
-put-requires c κs = search needs
+abbrev μ-loop : tie.MeasureT-loop
+μ-loop text₀ at next₀ k₀ _ text next k = 32 - k
 
-put-places-requires : tie.Need-put-places-requires
-put-places-requires c κs = search needs
+loop-holds : tie.Need-loop-holds Inv-loop μ-loop
+unfolding givenFrom flatten
+loop-holds c = (omega arith, refl, nothing _ _)
 
-slice-aggregate-put-2 : tie.Need-slice-aggregate-put-2
-slice-aggregate-put-2 c = search needs
+loop-again : tie.Need-loop-again Inv-loop μ-loop
+loop-again c =
+    let one = c .before .before in
+    let l = one .before .before .before .loop in
+    (omega arith, omega arith, same (text-turn placeText (l .k)) (and (l .inv .2) (one .put-place .ensures)))
 
-put-requires-2 : tie.Need-put-requires-2
-put-requires-2 c κs = search needs
-
-same-length : tie.Need-same-length
-same-length c = search needs
-
-returns : tie.Need-returns
+returns : tie.Need-returns Inv-loop μ-loop
 unfolding lines headLines tailLines pageText
 returns c =
     let ended = c .before .before in
-    let placed = ended .before .before .before .before .before in
-    let headed = placed .before .before .before .before in
-    let one = headed .put .ensures in
-    let two = placed .put-places .ensures in
-    let three = ended .put2 .ensures in
-    (omega (arith, one .place, two .0, three .place), then (then one (two .1)) three)
+    let l = ended .before .before .before .before .loop in
+    let all : l .k ≡ 32 = omega arith in
+    and
+    (and (put (ended .before .before .before .before .before .before .before .put .ensures)) (same (ap (λ (k : ℕ). flatten (givenFrom placeText 0 k)) all) (l .inv .2)))
+    (put (ended .put2 .ensures))
 
 pub put-all-spec : {M : Type 1} → statement M
-put-all-spec =
-    tie.close
-    (tie.spec
-    slice-aggregate-put
-    put-requires
-    put-places-requires
-    slice-aggregate-put-2
-    put-requires-2
-    same-length
-    returns)
+put-all-spec = tie.close (tie.spec Inv-loop μ-loop (λ c. search needs) (λ c κs. search needs) loop-holds (λ c κs. search needs) (λ c. search needs) (λ c. search needs) loop-again (λ c. search needs) (λ c κs. search needs) (λ c. search needs) returns)

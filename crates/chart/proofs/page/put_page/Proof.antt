@@ -1,50 +1,27 @@
--- `chart::page::put_page` meets its contract: the text is handed over.
+-- `chart::page::put_page` meets its contract: where there is room for the text, and where there is none.
 -- Assumes nothing.
+use Prim.Native.Nat.{_+_, _≤_}
 use native.Mathlib.Omega.{arith}
-use mathlib.Core.Path.{ap, _∙_}
-use lib.ListN.{length-take}
-use Rattle.texts.specs.Puts.{putOf}
+use lib.ListN.{length}
+use Rattle.texts.proofs.Placing.{no-room, as-put}
+use Rattle.chart.specs.Page.{pageText}
+use Rattle.chart.proofs.Lengths.{page-length}
 use borrow.Author.Needs.{needs}
 use Rattle.chart.proofs.page.put_page.Statement.{statement}
 use Rattle.chart.proofs.page.put_page.Tie as tie
 
-room-requires : tie.Need-room-requires
-room-requires c κs = search needs
-
-slice-aggregate-put-all : tie.Need-slice-aggregate-put-all
-slice-aggregate-put-all c = search needs
-
-put-all-requires : tie.Need-put-all-requires
-put-all-requires c κs = search needs
-
-array-share-prefix-text : tie.Need-array-share-prefix-text
-array-share-prefix-text c = search needs
-
-slice-aggregate-put : tie.Need-slice-aggregate-put
-slice-aggregate-put c = simp length-take (omega arith)
-
-put-requires : tie.Need-put-requires
-put-requires c κs = search needs
-
-same-length : tie.Need-same-length
-same-length c = search needs
-
 returns : tie.Need-returns
-returns c =
-    let put = c .before .before in
-    let all = put .before .before .before .before in
-    let begin = all .before .before .before .before in
-    put .put .ensures ∙ ap (putOf (begin .args .out .now) (begin .args .at)) (all .put-all .ensures .1 .text)
+returns c = no-room _ _ _ (omega (arith, page-length))
+
+returns-2 : tie.Need-returns-2
+returns-2 c = no-room _ _ _ (omega (arith, page-length))
+
+returns-3 : tie.Need-returns-3
+returns-3 c =
+    let all = c .before .before in
+    let begin = all .before .before .before .before .before .args in
+    let room : begin .at + length pageText ≤ length (begin .out .now) = omega (arith, page-length) in
+    as-put room (all .put-all .ensures room)
 
 pub put-page-spec : {M : Type 1} → statement M
-put-page-spec =
-    tie.close
-    (tie.spec
-    room-requires
-    slice-aggregate-put-all
-    put-all-requires
-    array-share-prefix-text
-    slice-aggregate-put
-    put-requires
-    same-length
-    returns)
+put-page-spec = tie.close (tie.spec returns returns-2 (λ c κs. search needs) (λ c. search needs) returns-3)

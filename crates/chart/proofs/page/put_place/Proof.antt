@@ -1,60 +1,47 @@
--- `chart::page::put_place` meets its contract: the frame, the numbers of its entries, and what comes next.
+-- `chart::page::put_place` meets its contract: its frame, its numbers, and what comes next.
 -- Assumes nothing.
-use native.Mathlib.Omega.{arith}
-use mathlib.Core.Path.{ap}
-use Rattle.texts.proofs.Placing.{then, same-piece}
-use Rattle.chart.specs.Page.{bothText, placeText}
+use Prim.Native.Nat.{ℕ, _*_}
+use mathlib.Core.Bool.{Bool, cond}
+use mathlib.Core.List.{[], _++_}
+use mathlib.Core.Path.{_≡_, ap, _∙_}
+use Rattle.common.specs.Ascii.{ascii}
+use Rattle.table.specs.declared.Asked.{Asked}
+use Rattle.sequence.specs.declared.Place.{Place}
+use Rattle.sequence.specs.Moves.{moveOf}
+use Rattle.sequence.specs.Places.{movingHaveOpen}
+use Rattle.table.specs.Table.{askedAt}
+use Rattle.chart.specs.declared.differences.Deciding.{Deciding}
+use Rattle.chart.specs.Differences.{alone, isNamed, decisive}
+use Rattle.chart.specs.Page.{line, frameText, numbersText, whenText, nextText, elseText, placeText}
+use Rattle.chart.proofs.Pieces.{same, put, and}
 use borrow.Author.Needs.{needs}
 use Rattle.chart.proofs.page.put_place.Statement.{statement}
 use Rattle.chart.proofs.page.put_place.Tie as tie
 
-put-frame-requires : tie.Need-put-frame-requires
-put-frame-requires c κs = search needs
-
-put-numbers-requires : tie.Need-put-numbers-requires
-put-numbers-requires c κs = search needs
-
-deciding-at-requires : tie.Need-deciding-at-requires
-deciding-at-requires c κs = search needs
-
-put-both-requires : tie.Need-put-both-requires
-put-both-requires c κs = search needs
-
-slice-aggregate-put : tie.Need-slice-aggregate-put
-slice-aggregate-put c = search needs
-
-put-requires : tie.Need-put-requires
-put-requires c κs = search needs
-
-same-length : tie.Need-same-length
-same-length c = search needs
+text : (k : ℕ) (a : Asked) (possible : Bool) (fact : Deciding) (to : Place) → a ≡ askedAt (16 * k)
+    → possible ≡ movingHaveOpen (a .place) → fact ≡ decisive (a .aim) (a .place) → to ≡ moveOf (a .aim) (a .place) (alone fact)
+    → frameText k possible ++ numbersText k ++ whenText fact ++ nextText (a .place) to ++
+    cond (isNamed fact) (elseText (a .aim) (a .place)) [] ++ line (ascii "</g>")
+    ≡ placeText k
+unfolding placeText
+text k a possible fact to e f g h = rw (h, g, f, e)
 
 returns : tie.Need-returns
-unfolding placeText
 returns c =
     let ended = c .before .before in
-    let told = ended .before .before .before .before .before in
-    let numbered = told .before .before .before .before .before in
-    let framed = numbered .before .before .before .before in
-    let begin = framed .before .before .before in
-    let one = framed .put-frame .ensures in
-    let two = numbered .put-numbers .ensures in
-    let three = told .put-both .ensures in
-    let four = ended .put .ensures in
-    let fact = ap (bothText (begin .args .k)) (told .before .deciding-at .ensures) in (
-      omega (arith, one .0, two .0, three .0, four .place),
-      then (then (then (one .1) (two .1)) (same-piece fact (three .1))) four,
-    )
+    let other = ended .before .before .before .before .before in
+    let told = other .before .before .before .before in
+    let said = told .before .before .before .before .before .before in
+    let numbers = said .before .before .before .before in
+    let framed = numbers .before .before .before .before in
+    let fact = framed .before .before .before in
+    let asked = fact .before .before in
+    let next = told .before .moved .ensures ∙ ap (moveOf _ _) (told .before .before .alone .ensures) in
+    same
+    (text (asked .before .before .args .k) _ _ _ _ (asked .numbered .ensures) (framed .before .moving-have-open .ensures) (fact .decisive .ensures) next)
+    (and (and (and (and (and (framed .put-frame .ensures) (numbers .put-numbers .ensures)) (said .put-when .ensures)) (told .put-next .ensures))
+    (other .put-else .ensures))
+    (put (ended .put .ensures)))
 
 pub put-place-spec : {M : Type 1} → statement M
-put-place-spec =
-    tie.close
-    (tie.spec
-    put-frame-requires
-    put-numbers-requires
-    deciding-at-requires
-    put-both-requires
-    slice-aggregate-put
-    put-requires
-    same-length
-    returns)
+put-place-spec = tie.close (tie.spec (λ c. search needs) (λ c κs. search needs) (λ c κs. search needs) (λ c κs. search needs) (λ c κs. search needs) (λ c κs. search needs) (λ c κs. search needs) (λ c κs. search needs) (λ c κs. search needs) (λ c κs. search needs) (λ c κs. search needs) (λ c. search needs) (λ c κs. search needs) (λ c. search needs) returns)

@@ -1,127 +1,30 @@
 -- `chart::page::put_when` meets its contract: each arm puts its own line.
 -- Assumes nothing.
-use native.Mathlib.Omega.{arith}
 use Rattle.chart.specs.Page.{whenText}
+use Rattle.chart.proofs.Pieces.{put}
 use borrow.Author.Needs.{needs}
 use Rattle.chart.proofs.page.put_when.Statement.{statement}
 use Rattle.chart.proofs.page.put_when.Tie as tie
 
-enum-told : tie.Need-enum-told
-enum-told c = search needs
-
-slice-aggregate-put : tie.Need-slice-aggregate-put
-slice-aggregate-put c = search needs
-
-put-requires : tie.Need-put-requires
-put-requires c κs = search needs
-
-enum-told-2 : tie.Need-enum-told-2
-enum-told-2 c = search needs
-
-slice-aggregate-put-2 : tie.Need-slice-aggregate-put-2
-slice-aggregate-put-2 c = search needs
-
-put-requires-2 : tie.Need-put-requires-2
-put-requires-2 c κs = search needs
-
-enum-told-3 : tie.Need-enum-told-3
-enum-told-3 c = search needs
-
-slice-aggregate-put-3 : tie.Need-slice-aggregate-put-3
-slice-aggregate-put-3 c = search needs
-
-put-requires-3 : tie.Need-put-requires-3
-put-requires-3 c κs = search needs
-
-enum-told-4 : tie.Need-enum-told-4
-enum-told-4 c = search needs
-
-slice-aggregate-put-4 : tie.Need-slice-aggregate-put-4
-slice-aggregate-put-4 c = search needs
-
-put-requires-4 : tie.Need-put-requires-4
-put-requires-4 c κs = search needs
-
-enum-told-5 : tie.Need-enum-told-5
-enum-told-5 c = search needs
-
-slice-aggregate-put-5 : tie.Need-slice-aggregate-put-5
-slice-aggregate-put-5 c = search needs
-
-put-requires-5 : tie.Need-put-requires-5
-put-requires-5 c κs = search needs
-
-same-length : tie.Need-same-length
-same-length c = search needs
-
 returns : tie.Need-returns
 unfolding whenText
-returns c =
-    let one = c .before .before in
-    (omega (arith, one .put .ensures .place), rw (one .before .before .before .enum-told .given .1) (one .put .ensures))
-
-same-length-2 : tie.Need-same-length-2
-same-length-2 c = search needs
+returns c = let one = c .before .before in rw (one .before .before .before .enum-told .given .1) (put (one .put .ensures))
 
 returns-2 : tie.Need-returns-2
 unfolding whenText
-returns-2 c =
-    let one = c .before .before in
-    (omega (arith, one .put2 .ensures .place), rw (one .before .before .before .enum-told2 .given .1) (one .put2 .ensures))
-
-same-length-3 : tie.Need-same-length-3
-same-length-3 c = search needs
+returns-2 c = let one = c .before .before in rw (one .before .before .before .enum-told2 .given .1) (put (one .put2 .ensures))
 
 returns-3 : tie.Need-returns-3
 unfolding whenText
-returns-3 c =
-    let one = c .before .before in
-    (omega (arith, one .put3 .ensures .place), rw (one .before .before .before .enum-told3 .given .1) (one .put3 .ensures))
-
-same-length-4 : tie.Need-same-length-4
-same-length-4 c = search needs
+returns-3 c = let one = c .before .before in rw (one .before .before .before .enum-told3 .given .1) (put (one .put3 .ensures))
 
 returns-4 : tie.Need-returns-4
 unfolding whenText
-returns-4 c =
-    let one = c .before .before in
-    (omega (arith, one .put4 .ensures .place), rw (one .before .before .before .enum-told4 .given .1) (one .put4 .ensures))
-
-same-length-5 : tie.Need-same-length-5
-same-length-5 c = search needs
+returns-4 c = let one = c .before .before in rw (one .before .before .before .enum-told4 .given .1) (put (one .put4 .ensures))
 
 returns-5 : tie.Need-returns-5
 unfolding whenText
-returns-5 c =
-    let one = c .before .before in
-    (omega (arith, one .put5 .ensures .place), rw (one .before .before .before .enum-told5 .given .1) (one .put5 .ensures))
+returns-5 c = let one = c .before .before in rw (one .before .before .before .enum-told5 .given .1) (put (one .put5 .ensures))
 
 pub put-when-spec : {M : Type 1} → statement M
-put-when-spec =
-    tie.close
-    (tie.spec
-    enum-told
-    slice-aggregate-put
-    put-requires
-    enum-told-2
-    slice-aggregate-put-2
-    put-requires-2
-    enum-told-3
-    slice-aggregate-put-3
-    put-requires-3
-    enum-told-4
-    slice-aggregate-put-4
-    put-requires-4
-    enum-told-5
-    slice-aggregate-put-5
-    put-requires-5
-    same-length
-    returns
-    same-length-2
-    returns-2
-    same-length-3
-    returns-3
-    same-length-4
-    returns-4
-    same-length-5
-    returns-5)
+put-when-spec = tie.close (tie.spec (λ c. search needs) (λ c. search needs) (λ c κs. search needs) (λ c. search needs) (λ c. search needs) (λ c κs. search needs) (λ c. search needs) (λ c. search needs) (λ c κs. search needs) (λ c. search needs) (λ c. search needs) (λ c κs. search needs) (λ c. search needs) (λ c. search needs) (λ c κs. search needs) (λ c. search needs) returns (λ c. search needs) returns-2 (λ c. search needs) returns-3 (λ c. search needs) returns-4 (λ c. search needs) returns-5)
