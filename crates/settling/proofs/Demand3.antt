@@ -117,8 +117,7 @@ by-the-core Says ofTheCore s reached down first rest stays =
 
 -- ---- Demand 3
 
--- "From any reached state, with the voted handle held still, within 24,796 ms either red is latched or the doors are closed and the
--- gears stand where the handle asks, whatever the sensors say." Reached is from a fresh start or a taken image.
+-- As it is quoted in specs/Settled.antt; reached is from a fresh start or a taken image.
 pub demand-3 : OfEveryRun (SettledWithin bound)
 demand-3 = by-the-core (SettledWithin bound) (core-demand-3 limit (lit< tt))
 
