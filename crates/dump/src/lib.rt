@@ -58,6 +58,22 @@ pub struct Wrote {
     pub written: usize,
 }
 
+// What every dump begins with, up to the first value.
+pub fn opening() -> [u8; OPENING_LENGTH]
+    ensures { λ r. ⌜ r ≡ openingText ⌝ }
+{
+    let mut text = [0u8; OPENING_LENGTH];
+    put_opening(&mut text);
+    text
+}
+
+// What follows the first values.
+pub fn closing() -> [u8; CLOSING_LENGTH]
+    ensures { λ r. ⌜ r ≡ closingText ⌝ }
+{
+    *b"$end\n"
+}
+
 impl Dump {
     // A dump at its start: writes its head, with the values at time 0.
     pub fn start(values: [bool; WIRES], out: &mut [u8]) -> Wrote
@@ -97,22 +113,6 @@ impl Dump {
             written: 0,
         }
     }
-}
-
-// What every dump begins with, up to the first value.
-pub fn opening() -> [u8; OPENING_LENGTH]
-    ensures { λ r. ⌜ r ≡ openingText ⌝ }
-{
-    let mut text = [0u8; OPENING_LENGTH];
-    put_opening(&mut text);
-    text
-}
-
-// What follows the first values.
-pub fn closing() -> [u8; CLOSING_LENGTH]
-    ensures { λ r. ⌜ r ≡ closingText ⌝ }
-{
-    *b"$end\n"
 }
 
 // Hands a text to the lent buffer where there is room for it.

@@ -50,11 +50,13 @@ use Rattle.readback.specs.Bytes.{
   atTime,
   atCode,
   atEnd,
+  atText,
   byteOf,
 }
 use Rattle.readback.specs.Reads.{complete, begins, before, readFrom, readOf}
 use Rattle.readback.specs.Values.{valuesFrom, valuesAt, sameValues, shownAfter, shown}
-use Rattle.dump.proofs.Lines.{opening-length, is-timed}
+use Rattle.dump.proofs.Lines.{opening-length, closing-length, is-timed}
+use Rattle.readback.proofs.Places.{readerAt}
 use Rattle.readback.proofs.Lines.{
   not-other,
   same-equal,
@@ -65,63 +67,51 @@ use Rattle.readback.proofs.Lines.{
 
 -- What is read of some bytes from a place on, with the time and the values of the moment under way and the first wire that may follow.
 abbrev readAt : Place → ℕ → ℕ → List Bool → List ℕ → Answer (List Moment)
-readAt place time next values bytes = readFrom (record { place = place; time = time; next = next; values = values }) bytes
+readAt place time next values bytes = readFrom (readerAt place time next values) bytes
 
 -- ---- Fixed texts
 
--- A text of which each byte leads on to the next place, and the last one behind it, is read over from each place on.
-module _ (text : List ℕ) (within : ℕ → List ℕ → Answer (List Moment)) (behind : List ℕ → Answer (List Moment))
-    (forth : (at : ℕ) (bytes : List ℕ) → at < length text
-    → within at (getD text at 0 ∷ bytes) ≡ cond (eqb (suc at) (length text)) (behind bytes) (within (suc at) bytes)) where
-  text-read : (left at : ℕ) (rest : List ℕ) → at + suc left ≡ length text → within at (drop at text ++ rest) ≡ behind rest
+-- A text of which each byte comes to what `atText` says is read over from each place on.
+module _ (text : List ℕ) (on : ℕ → Place) (behind : Place) (time next : ℕ) (values : List Bool)
+    (leads : (at b : ℕ) (bytes : List ℕ)
+    → readAt (on at) time next values (b ∷ bytes) ≡ readFrom (atText text on behind (readerAt (on at) time next values) at b) bytes) where
+  text-read : (left at : ℕ) (rest : List ℕ) → at + suc left ≡ length text
+      → readAt (on at) time next values (drop at text ++ rest) ≡ readAt behind time next values rest
   text-read zero at rest h =
       let last : suc at ≡ length text = omega arith in
       let past : length text ≤ suc at = omega arith in
-      rw (drop-cons text at 0 (omega arith), drop-of-length-le text past, forth at rest (omega arith), eq-eqb (suc at) (length text) last)
+      rw (
+        drop-cons text at 0 (omega arith),
+        drop-of-length-le text past,
+        leads at (getD text at 0) rest,
+        lt-ltb at (length text) (omega arith),
+        eq-eqb (getD text at 0) (getD text at 0) refl,
+        eq-eqb (suc at) (length text) last,
+      )
   text-read (suc left) at rest h =
       let more : suc at ≡ length text → ⊥ = λ e. omega arith in
-      rw (drop-cons text at 0 (omega arith), forth at (drop (suc at) text ++ rest) (omega arith), ne-eqb (suc at) (length text) more)
+      rw (
+        drop-cons text at 0 (omega arith),
+        leads at (getD text at 0) (drop (suc at) text ++ rest),
+        lt-ltb at (length text) (omega arith),
+        eq-eqb (getD text at 0) (getD text at 0) refl,
+        ne-eqb (suc at) (length text) more,
+      )
       (text-read left (suc at) rest (omega arith))
-
--- A choice between two places is one between what is read from them.
-by-place : (t : Bool) (p q : Place) (time next : ℕ) (values : List Bool) (bytes : List ℕ)
-    → readAt (cond t p q) time next values bytes ≡ cond t (readAt p time next values bytes) (readAt q time next values bytes)
-by-place true p q time next values bytes = refl
-by-place false p q time next values bytes = refl
-
--- The two texts of the head are such.
-module _ (time next : ℕ) (values : List Bool) where
-  opening-forth : (at : ℕ) (bytes : List ℕ) → at < length openingText
-      → readAt (Opening at) time next values (getD openingText at 0 ∷ bytes)
-      ≡ cond (eqb (suc at) (length openingText)) (readAt FirstValue time next values bytes)
-      (readAt (Opening (suc at)) time next values bytes)
-  unfolding readFrom begins complete byteOf atOpening
-  opening-forth at bytes h =
-      rw (lt-ltb at (length openingText) h, eq-eqb (getD openingText at 0) (getD openingText at 0) refl)
-      (by-place (eqb (suc at) (length openingText)) FirstValue (Opening (suc at)) time next values bytes)
-
-  closing-forth : (at : ℕ) (bytes : List ℕ) → at < length closingText
-      → readAt (Closing at) time next values (getD closingText at 0 ∷ bytes)
-      ≡ cond (eqb (suc at) (length closingText)) (readAt Line time next values bytes)
-      (readAt (Closing (suc at)) time next values bytes)
-  unfolding readFrom begins complete byteOf atClosing
-  closing-forth at bytes h =
-      rw (lt-ltb at (length closingText) h, eq-eqb (getD closingText at 0) (getD closingText at 0) refl)
-      (by-place (eqb (suc at) (length closingText)) Line (Closing (suc at)) time next values bytes)
 
 -- What every dump begins with leads to the first value.
 opening-read : (time next : ℕ) (values : List Bool) (rest : List ℕ)
     → readAt (Opening 0) time next values (openingText ++ rest) ≡ readAt FirstValue time next values rest
+unfolding readFrom begins complete byteOf atOpening
 opening-read time next values rest =
-    text-read openingText (λ at. readAt (Opening at) time next values) (readAt FirstValue time next values)
-    (opening-forth time next values) (length openingText - 1) 0 rest (omega (arith, opening-length))
+    text-read openingText Opening FirstValue time next values (λ at b bytes. refl) (length openingText - 1) 0 rest (omega (arith, opening-length))
 
 -- What follows the first values leads to the lines behind the head.
 closing-read : (time next : ℕ) (values : List Bool) (rest : List ℕ)
     → readAt (Closing 0) time next values (closingText ++ rest) ≡ readAt Line time next values rest
+unfolding readFrom begins complete byteOf atClosing
 closing-read time next values rest =
-    text-read closingText (λ at. readAt (Closing at) time next values) (readAt Line time next values)
-    (closing-forth time next values) 4 0 rest (unfold closingText in refl)
+    text-read closingText Closing Line time next values (λ at b bytes. refl) (length closingText - 1) 0 rest (omega (arith, closing-length))
 
 -- ---- The first values
 

@@ -1,5 +1,5 @@
--- Request K2: the reader of dumps, byte by byte: what each byte comes to at each place of a dump. A byte that no dump has there is
--- refused for good, with 9.
+-- Request K2: the reader of dumps, byte by byte: what each byte comes to at each place of a dump. A byte that is not taken is one that
+-- no dump has there, and is refused for good, with 9.
 -- Assumes nothing.
 use Prim.Native.Nat.{ℕ, suc, _+_, _-_, _*_, _^_}
 use mathlib.Core.Bool.{Bool, false, cond, _&&_, _||_}

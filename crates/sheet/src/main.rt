@@ -3,6 +3,7 @@
 // that are complete in it are put out, so that a live pipe sees its rows at once.
 ghost use mathlib.Core.Path.{_≡_};
 ghost use lib.ListN.{length};
+use dump::WIRES;
 use libc::STDERR_FILENO;
 use libc::STDIN_FILENO;
 use readback::Reader;
@@ -186,7 +187,7 @@ fn output_room() -> [u8; 65536]
 
 // The header comes first in every case.
 fn main() {
-    let mut values = [0u8; 26];
+    let mut values = [0u8; WIRES];
     let mut input = input_room();
     let mut out = output_room();
     let end = sheets::put_header(&mut out, 0);
