@@ -1,11 +1,9 @@
-//! What the programs with faults have in common, and those that store vectors.
+//! What the programs with faults have in common.
 
 use crate::rules::{by_name, Rules};
 use crate::trace::Stopped;
 use std::ffi::OsString;
 use std::fmt::Display;
-use std::io;
-use std::path::Path;
 use std::process::ExitCode;
 
 type List = fn() -> Vec<(String, Rules)>;
@@ -58,48 +56,4 @@ pub fn say(ended: Result<Option<impl Display>, Stopped>) -> ExitCode {
         Err(Stopped::Writing(e)) => eprintln!("writing failed: {e}"),
     }
     ExitCode::SUCCESS
-}
-
-/// What was written.
-#[derive(Default)]
-pub struct Wrote {
-    files: usize,
-    bytes: usize,
-    changed: usize,
-}
-
-impl Wrote {
-    /// A file that has these bytes already is left alone.
-    pub fn put(&mut self, path: &Path, bytes: &[u8]) -> io::Result<()> {
-        self.files += 1;
-        self.bytes += bytes.len();
-        if std::fs::read(path).is_ok_and(|old| old == bytes) {
-            return Ok(());
-        }
-        self.changed += 1;
-        std::fs::write(path, bytes)
-    }
-}
-
-/// The arguments DIR [DATA] of a program that stores vectors: stores them, and says how many files it wrote.
-pub fn store_in(program: &str, store: fn(&Path, Option<&Path>) -> io::Result<Wrote>) -> ExitCode {
-    let args: Vec<String> = std::env::args().skip(1).collect();
-    let (dir, data) = match &args[..] {
-        [dir] => (dir, None),
-        [dir, data] => (dir, Some(Path::new(data))),
-        _ => {
-            eprintln!("usage: {program} DIR [DATA]");
-            return ExitCode::from(2);
-        }
-    };
-    match store(Path::new(dir), data) {
-        Ok(Wrote { files, bytes, changed }) => {
-            println!("{files} files, {bytes} bytes, {changed} of them new or changed");
-            ExitCode::SUCCESS
-        }
-        Err(e) => {
-            eprintln!("{}: {e}", args.join(", "));
-            ExitCode::FAILURE
-        }
-    }
 }

@@ -2,18 +2,16 @@
 //! one for each way of being wrong, so that every fault of `rules::wave_faults` and
 //! `rules::sheet_faults` changes at least one stored dump or sheet.
 
-use crate::dump::{head_length, waves_bytes, write, Moment, ALL};
+use crate::dump::{head_length, write, Moment, ALL};
 use crate::gen::Rng;
 use crate::rig::{DOOR_CLOSED, GEAR_EXTENDED, HANDLE};
 use crate::rules::Rules;
-use crate::vectors::{session_s, vectors};
-use std::io::{self, ErrorKind::NotFound};
-use std::path::Path;
 
 /// Name, reason, bytes.
 pub type Stored = (&'static str, &'static str, Vec<u8>);
 
-const TRACES: [(&str, &str); 29] = [
+/// Traces with their dump, and what that is for.
+pub const DUMPS_OF_TRACES: [(&str, &str); 29] = [
     ("session_s", "Session S: a 3 and a 4 add no time"),
     ("lesson", "a long lesson; the stamp goes round in it, time does not"),
     ("lamps_green_and_orange", "doors, then gears leave; orders, lamps and sensors change together"),
@@ -40,68 +38,13 @@ const TRACES: [(&str, &str); 29] = [
     ("bad_empty", "no row 0, the input is empty: an empty dump"),
     ("header_only", "no row 0, and no refusal either: an empty dump"),
     ("bad_header_513", "refused on its header: an empty dump"),
-    ("bad_row_label-is-next", "row 0 gets 7: an empty dump"),
+    ("bad_row_0_label", "row 0 gets 7: an empty dump"),
     ("bad_triple_digit", "ended by 5 before anything changed: `#0` alone"),
     ("bad_double_crlf", "ended by 5 after the last row"),
     ("bad_row_513", "ended by 6 early"),
     ("bad_row_513_late", "ended by 6 late: the dump has what was accepted before"),
     ("bad_label_late", "ended by 7 late: the dump has what was accepted before"),
 ];
-
-/// A trace of a name: of the first folder that has it, else the peer's own.
-pub(crate) fn find_trace(
-    folders: &[&Path],
-    name: &str,
-    own: impl Fn() -> Option<Vec<u8>>,
-) -> io::Result<Vec<u8>> {
-    match folders.iter().map(|f| f.join(name.to_string() + ".in")).find(|path| path.exists()) {
-        Some(path) => std::fs::read(path),
-        None => own().ok_or_else(|| io::Error::new(NotFound, format!("there is no {name}.in"))),
-    }
-}
-
-/// The traces whose dump is stored.
-pub fn dump_traces(folders: &[&Path]) -> io::Result<Vec<Stored>> {
-    let all = vectors();
-    let own = |name: &str| all.iter().find(|v| v.0 == name).map(|v| v.1.clone());
-    let get = |(name, reason)| Ok((name, reason, find_trace(folders, name, || own(name))?));
-    TRACES.into_iter().map(get).collect()
-}
-
-/// Name, input, output.
-pub type Vector = (String, Vec<u8>, Vec<u8>);
-
-/// The stored vectors of a folder, by name.
-#[derive(Default)]
-pub struct Folder {
-    /// NAME.in, NAME.vcd.
-    pub traces: Vec<Vector>,
-    /// NAME.vcd, NAME.csv.
-    pub dumps: Vec<Vector>,
-}
-
-/// Every NAME.vcd of a folder with what stands beside it; one with nothing beside it is an error.
-pub fn stored_dumps(dir: &Path) -> io::Result<Folder> {
-    let mut all = Folder::default();
-    for entry in std::fs::read_dir(dir)? {
-        let path = entry?.path();
-        let name = path.file_stem().unwrap_or_default().to_string_lossy().into_owned();
-        let is = |extension: &str| path.extension().is_some_and(|e| e == extension);
-        let has = |extension: &str| path.with_extension(extension).exists();
-        let get = |extension: &str| std::fs::read(path.with_extension(extension));
-        let alone = |what: &str| Err(io::Error::new(NotFound, format!("{name}{what}")));
-        match (is("vcd"), is("csv")) {
-            (true, _) if has("in") => all.traces.push((name, get("in")?, get("vcd")?)),
-            (true, _) if !has("csv") => return alone(".vcd has no trace and no sheet"),
-            (_, true) if !has("vcd") => return alone(".csv has no dump"),
-            (_, true) => all.dumps.push((name, get("vcd")?, get("csv")?)),
-            _ => {}
-        }
-    }
-    all.traces.sort();
-    all.dumps.sort();
-    Ok(all)
-}
 
 /// A dump of four times, to be made wrong: at 5 wires 0, 8 and 25 change, at 40 wires 3 and 4, at 200
 /// wires 0 and 3.
@@ -137,9 +80,6 @@ fn ticks(times: &[u64]) -> Vec<u8> {
 pub fn dumps() -> Vec<Stored> {
     let mut all: Vec<Stored> = Vec::new();
     let mut add = |name, reason, bytes| all.push((name, reason, bytes));
-    let rules = Rules::default();
-
-    add("good_session_s", "the dump of Session S", waves_bytes(&rules, &session_s()).0);
     add("good_small", "the dump that most bad ones are made from", small());
     add("good_start_0", "`#0` alone, all values 0", list(&[(0, 0)]));
     add("good_start_1", "`#0` alone, all values 1", list(&[(0, ALL)]));

@@ -2,17 +2,15 @@
 //! and images of every kind, good ones and one for each way of being wrong, so that every fault of
 //! `rules::image_faults` changes at least one of what is stored.
 
-use crate::dump_vectors::{find_trace, Stored, Vector};
+use crate::dump_vectors::Stored;
 use crate::gen::{cut, field, same, Script, Tape, Travel};
 use crate::image::{Image, Item, BYTES};
 use crate::rig::*;
 use crate::rules::Rules;
-use crate::vectors::{handle_up, one, session_s, started, vectors, NEVER};
-use std::io::{self, ErrorKind::NotFound};
-use std::path::Path;
+use crate::vectors::{handle_up, one, session_s, started, NEVER};
 
-/// Traces with their image; where it is marked, with the image in words too.
-const TRACES: [(&str, bool, &str); 21] = [
+/// Traces with their image; where it is marked, with the image in words too; and what that is for.
+pub const IMAGES_OF_TRACES: [(&str, bool, &str); 21] = [
     ("session_s", true, "Session S: doors OPEN, gears EXTENDING with their order on; a 3 and a 4 in it"),
     ("lesson", true, "a long lesson; the stamp goes round in it; every age by itself"),
     ("edge_cause_1", true, "cause 1; doors OPENING and general_EV off"),
@@ -33,19 +31,11 @@ const TRACES: [(&str, bool, &str); 21] = [
     ("bad_row_512_cr", false, "row 0, then a 6: the image of a fresh start"),
     ("bad_empty", true, "no row 0, the input is empty: an empty file, which is no image"),
     ("header_only", false, "no row 0, and no refusal either: an empty file"),
-    ("bad_row_label-is-next", false, "row 0 gets 7: an empty file"),
+    ("bad_row_0_label", false, "row 0 gets 7: an empty file"),
 ];
 
-/// A trace whose image is stored.
-pub struct TraceVector {
-    pub name: &'static str,
-    pub shown: bool,
-    pub reason: &'static str,
-    pub text: Vec<u8>,
-}
-
 /// The traces of this file's own.
-fn own(name: &str) -> Option<Vec<u8>> {
+pub(crate) fn own(name: &str) -> Option<Vec<u8>> {
     match name {
         "image_ages" => {
             let mut s = handle_up();
@@ -60,7 +50,7 @@ fn own(name: &str) -> Option<Vec<u8>> {
             let whole: Vec<u8> = rows[..10].iter().flat_map(|row| [&row[..], b"\r\n"].concat()).collect();
             Some([&whole, &rows[10][..40]].concat())
         }
-        _ => vectors().into_iter().find(|v| v.0 == name).map(|v| v.1),
+        _ => None,
     }
 }
 
@@ -80,15 +70,6 @@ fn causes() -> Vec<u8> {
     }
     assert!(tape.rig.cause == 11 && !tape.rig.is_on(GENERAL));
     tape.text
-}
-
-/// The traces whose image is stored: of the first folder that has it, else the peer's own.
-pub fn image_traces(folders: &[&Path]) -> io::Result<Vec<TraceVector>> {
-    let get = |(name, shown, reason)| {
-        let text = find_trace(folders, name, || own(name))?;
-        Ok(TraceVector { name, shown, reason, text })
-    };
-    TRACES.into_iter().map(get).collect()
 }
 
 /// An image, and a trace that goes on from it.
@@ -423,44 +404,4 @@ fn rule_broken() -> Vec<Stored> {
         ("bad_invalid_first", "the first sensor is invalid and there is no cause", invalid(0)),
         ("bad_invalid_last", "the last sensor is invalid and there is no cause", invalid(17)),
     ]
-}
-
-/// Name, image, trace, output.
-pub type OnwardVector = (String, Vec<u8>, Vec<u8>, Vec<u8>);
-
-/// The stored vectors of a folder, by name.
-#[derive(Default)]
-pub struct Folder {
-    /// NAME.in, NAME.img.
-    pub traces: Vec<Vector>,
-    /// NAME.start, NAME.in, NAME.resumed.
-    pub onwards: Vec<OnwardVector>,
-    /// NAME.img, NAME.txt.
-    pub images: Vec<Vector>,
-}
-
-/// Every NAME.img, NAME.start and NAME.txt of a folder with what stands beside it; one with nothing beside
-/// it is an error.
-pub fn stored_images(dir: &Path) -> io::Result<Folder> {
-    let mut all = Folder::default();
-    for entry in std::fs::read_dir(dir)? {
-        let path = entry?.path();
-        let name = path.file_stem().unwrap_or_default().to_string_lossy().into_owned();
-        let has = |extension: &str| path.with_extension(extension).exists();
-        let get = |extension: &str| std::fs::read(path.with_extension(extension));
-        let alone = |what: &str| Err(io::Error::new(NotFound, format!("{name}{what}")));
-        match path.extension().and_then(|e| e.to_str()) {
-            Some("img") if has("in") => all.traces.push((name, get("in")?, get("img")?)),
-            Some("img") if !has("txt") => return alone(".img has no trace and no text"),
-            Some("txt") if !has("img") => return alone(".txt has no image"),
-            Some("txt") => all.images.push((name, get("img")?, get("txt")?)),
-            Some("resumed") if !has("start") => return alone(".resumed has no image"),
-            Some("start") => all.onwards.push((name, get("start")?, get("in")?, get("resumed")?)),
-            _ => {}
-        }
-    }
-    all.traces.sort();
-    all.onwards.sort();
-    all.images.sort();
-    Ok(all)
 }

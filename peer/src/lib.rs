@@ -14,6 +14,7 @@ pub mod image_vectors;
 pub mod page;
 pub mod rig;
 pub mod rules;
+pub mod stored;
 pub mod svg;
 pub mod trace;
 pub mod vectors;

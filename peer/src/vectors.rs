@@ -503,7 +503,7 @@ pub fn vectors() -> Vec<(String, Vec<u8>)> {
     add("bad_empty", Vec::new());
     add("bad_header_case", changed(0, |row| row[0] = b'S'));
     add("bad_header_513", padded(0, 513, b' ', None));
-    add("bad_no_final_crlf", whole[..whole.len() - 2].to_vec());
+    add("no_final_crlf", whole[..whole.len() - 2].to_vec());
     add("bad_final_cr", whole[..whole.len() - 1].to_vec());
     add("bad_double_crlf", [&whole[..], b"\r\n"].concat());
     add("bad_lone_lf", rows.join(&b'\n'));

@@ -1,11 +1,11 @@
-//! Document 01 with change request K1, told by examples. Stored vectors are taken from VECTORS, if there are any.
+//! Document 01 with change request K1, told by examples.
 use peer::gen::{same, trace, Script, Tape, KINDS};
 use peer::rig::*;
 use peer::rules::{faults, unseen, Rules};
 use peer::trace::{replay, replay_bytes, HEADER, OUT_HEADER};
 use peer::vectors::{session_s, vectors};
 use std::io::Read;
-use std::path::PathBuf;
+use std::path::Path;
 
 const AT_REST: u32 = HANDLE | GEAR_EXTENDED | DOOR_CLOSED;
 
@@ -39,23 +39,12 @@ fn session_s_with_the_lamps_of_k1() {
     assert_eq!(out(&text), wanted.replace('\n', "\r\n"));
 }
 
+/// Every file that is stored for the crate `cases` has a line in its INDEX and is what the peer writes, and none is
+/// missing.
 #[test]
-fn stored_vectors() {
-    let dir = std::env::var("VECTORS").unwrap_or("../crates/cases/data".into());
-    let Ok(entries) = std::fs::read_dir(&dir) else {
-        eprintln!("no vectors at {dir}: skipped");
-        return;
-    };
-    let mut count = 0;
-    // A trace that goes on from an image has no output of its own.
-    let alone = |p: &PathBuf| p.extension().is_some_and(|e| e == "in") && !p.with_extension("start").exists();
-    for path in entries.map(|e| e.unwrap().path()).filter(alone) {
-        let (input, wanted) =
-            (std::fs::read(&path).unwrap(), std::fs::read(path.with_extension("out")).unwrap());
-        assert_eq!(out(&input).as_bytes(), wanted, "{}", path.display());
-        count += 1;
-    }
-    println!("{count} vectors");
+fn what_is_stored_is_the_peers() {
+    let cases = Path::new("../crates/cases");
+    assert_eq!(peer::stored::check(cases).unwrap(), Vec::<String>::new());
 }
 
 #[test]

@@ -1,16 +1,17 @@
 //! Request K2 told by examples, and by what must hold of any dump.
 use peer::damage::{dump, moments as drawn, DUMP_KINDS};
 use peer::dump::*;
-use peer::dump_vectors::{dump_traces, dumps, stored_dumps};
+use peer::dump_vectors::dumps;
 use peer::gen::{trace, Rng, KINDS};
 use peer::rig::Rig;
 use peer::rules::{sheet_faults, wave_faults, Rules};
+use peer::stored;
 use peer::trace::{row, HEADER};
 use peer::vectors::{session_s, vectors};
 use std::io::Read;
-use std::path::PathBuf;
+use std::path::Path;
 
-const SESSION_S: &[u8] = include_bytes!("session_s.vcd");
+const SESSION_S: &[u8] = include_bytes!("../../crates/cases/data/traces/session_s.vcd");
 
 fn waves_of(trace: &[u8]) -> Vec<u8> {
     waves_bytes(&Rules::default(), trace).0
@@ -314,38 +315,13 @@ fn names_of_stored_dumps_say_whether_they_are_good() {
     }
 }
 
-/// Where the stored vectors are.
-fn data() -> PathBuf {
-    PathBuf::from(std::env::var("VECTORS").unwrap_or("../crates/cases/data".into()))
-}
-
-#[test]
-fn stored_dumps_and_sheets() {
-    let data = data();
-    if !data.exists() {
-        eprintln!("no vectors at {}: skipped", data.display());
-        return;
-    }
-    let all = stored_dumps(&data).unwrap();
-    for (name, trace, wanted) in &all.traces {
-        assert!(waves_of(trace) == *wanted, "{name}.vcd");
-    }
-    for (name, dump, wanted) in &all.dumps {
-        assert!(sheet_bytes(&Rules::default(), dump).0 == *wanted, "{name}.csv");
-    }
-    println!("{} dumps of traces, {} dumps with their sheets", all.traces.len(), all.dumps.len());
-}
-
 #[test]
 fn every_fault_is_in_some_stored_dump_or_sheet() {
-    let Ok(traces) = dump_traces(&[&data()]) else {
-        eprintln!("no vectors at {}: skipped", data().display());
-        return;
-    };
+    let traces = stored::read(Path::new("../crates/cases/data")).unwrap().dumps;
     let rules = Rules::default();
     let good: Vec<_> = dumps().iter().filter_map(|d| read(&d.2)).collect();
     for (name, fault) in wave_faults() {
-        let in_trace = traces.iter().any(|t| waves_bytes(&fault, &t.2).0 != waves_bytes(&rules, &t.2).0);
+        let in_trace = traces.iter().any(|t| waves_bytes(&fault, &t.1).0 != t.2);
         // No trace of a bearable length comes to 2^32 ms.
         assert_eq!(in_trace, name != "time_written_modulo_2p32", "{name}");
         let again = || good.iter().any(|list| write(&fault, list) != write(&rules, list));

@@ -1,16 +1,16 @@
-//! Request K3, told by the images of Session S after each row and by what must hold of any image. Stored
-//! vectors are taken from VECTORS, if there are any.
+//! Request K3, told by the images of Session S after each row and by what must hold of any image.
 use peer::gen::{cut, trace, KINDS};
 use peer::handover::{handover_bytes, shown_or_refused, Said, Task};
 use peer::image::{layout, Image, Item, BYTES, ITEMS};
 use peer::image_gen::{image, second_trace, IMAGE_KINDS};
-use peer::image_vectors::{image_traces, images, onwards, stored_images};
+use peer::image_vectors::images;
 use peer::rig::*;
 use peer::rules::{image_faults, unseen_in_images, Rules};
+use peer::stored;
 use peer::trace::{replay_bytes, OUT_HEADER};
 use peer::vectors::{session_s, vectors};
 use std::io::Write;
-use std::path::{Path, PathBuf};
+use std::path::Path;
 use std::process::{Command, Stdio};
 
 /// Label and image in hexadecimal, a line for each row.
@@ -393,41 +393,20 @@ fn stored_bad_images_are_bad_for_one_reason() {
     }
 }
 
-/// Where the stored vectors are.
-fn data() -> PathBuf {
-    PathBuf::from(std::env::var("VECTORS").unwrap_or("../crates/cases/data".into()))
+/// What is stored for the crate `cases`.
+fn data() -> stored::Data {
+    stored::read(Path::new("../crates/cases/data")).unwrap()
 }
 
 #[test]
-fn stored_images_rows_and_words() {
-    let data = data();
-    if !data.exists() {
-        eprintln!("no vectors at {}: skipped", data.display());
-        return;
-    }
-    let all = stored_images(&data).unwrap();
-    for (name, trace, wanted) in &all.traces {
-        assert!(save(trace) == *wanted, "{name}.img");
-    }
-    for (name, image, trace, wanted) in &all.onwards {
-        assert!(resume(image, trace).as_bytes() == wanted, "{name}.resumed");
-        assert_eq!(refusal(image), 0, "{name}.start");
-    }
-    for (name, image, wanted) in &all.images {
-        assert!(shown_or_refused(&Rules::default(), image) == *wanted, "{name}.txt");
-    }
-    let (images, rows, words) = (all.traces.len(), all.onwards.len(), all.images.len());
-    println!("{images} images of traces, {rows} traces from images, {words} images with their words");
+fn stored_starts_are_taken() {
+    data().onwards.iter().for_each(|(name, image, ..)| assert_eq!(refusal(image), 0, "{name}"));
 }
 
 /// Every word that can stand in a line is in some stored text.
 #[test]
 fn stored_words_are_all_the_words() {
-    let Ok(all) = stored_images(&data()) else {
-        eprintln!("no vectors at {}: skipped", data().display());
-        return;
-    };
-    let text: String = all.images.iter().map(|v| String::from_utf8(v.2.clone()).unwrap()).collect();
+    let text: String = data().words.iter().map(|v| String::from_utf8(v.2.clone()).unwrap()).collect();
     let has = |line: &str| assert!(text.contains(line), "{line}");
     ["all channels valid", "channel 1 struck", "channel 2 struck", "channel 3 struck", "invalid"]
         .iter()
@@ -442,20 +421,12 @@ fn stored_words_are_all_the_words() {
 
 #[test]
 fn every_fault_is_in_some_stored_image() {
-    let Ok(traces) = image_traces(&[&data()]) else {
-        eprintln!("no vectors at {}: skipped", data().display());
-        return;
-    };
-    let rules = Rules::default();
+    let all = data();
     let seen = |fault: &Rules| {
-        let shown = |image: &[u8]| shown_or_refused(fault, image) != shown_or_refused(&rules, image);
-        let saved = |trace: &[u8]| handover_bytes(fault, Task::Save, trace).0 != save(trace);
-        traces.iter().any(|t| saved(&t.text) || t.shown && shown(&save(&t.text)))
-            || images().iter().any(|v| shown(&v.2))
-            || onwards().iter().any(|v| {
-                handover_bytes(fault, Task::Resume(&v.image), &v.trace).0
-                    != resume(&v.image, &v.trace).as_bytes()
-            })
+        let resumed = |image: &[u8], trace: &[u8]| handover_bytes(fault, Task::Resume(image), trace).0;
+        all.images.iter().any(|v| handover_bytes(fault, Task::Save, &v.1).0 != v.2)
+            || all.words.iter().any(|v| shown_or_refused(fault, &v.1) != v.2)
+            || all.onwards.iter().any(|v| resumed(&v.1, &v.2) != v.3)
     };
     for (name, fault) in image_faults() {
         assert!(seen(&fault), "{name}");

@@ -1,25 +1,46 @@
 // An image and its words: NAME.img must be shown as NAME.txt, and be saved again as it was; one that is refused is shown as its refusal.
 use crate::files;
+use crate::parts;
 use controller::Answer;
 use controller::State;
+
+// Whether a case is as stored.
+pub fn case(name: &[u8]) -> bool {
+    let mut image = [0u8; 205];
+    let mut stored = io::buffer();
+    let n = files::read(name, b".img", &mut image);
+    let m = files::read(name, b".txt", &mut stored);
+    shown(&image[..n], &stored[..m]) & files::both(name, b".img", b".txt")
+}
+
+// The controller that the image of a case holds: one byte more is read than an image has, so that a longer one is seen to be no image.
+pub fn start(name: &[u8]) -> State {
+    let mut image = [0u8; 205];
+    let n = files::read(name, b".img", &mut image);
+    let answer = load(&image[..n]);
+    answer.state
+}
 
 // Loads an image at its own stamp.
 fn load(image: &[u8]) -> Answer {
     image::load(State::fresh(0), image, image::last_stamp(image))
 }
 
-// Loads the image of a file: one byte more is read than an image has, so that a longer one is seen to be no image.
-fn load_file(fd: i32) -> Answer {
-    let mut bytes = [0u8; 205];
-    let n = io::read_full(fd, &mut bytes);
-    libc::close(fd);
-    load(&bytes[..n])
+// Whether an image is shown as stored.
+fn shown(image: &[u8], stored: &[u8]) -> bool {
+    let answer = load(image);
+    let state = answer.state;
+    if answer.refusal == 0 {
+        return in_words(state, stored) & saved_again(state, image);
+    }
+    refused(answer.refusal, stored)
 }
 
-// Loads the stored image with this ending.
-pub fn stored(path: &mut [u8], n: usize, ending: &[u8]) -> Answer {
-    let fd = files::open_with(path, n, ending);
-    load_file(fd)
+// Whether the words of a controller are as stored.
+fn in_words(state: State, stored: &[u8]) -> bool {
+    let mut out = io::buffer();
+    let n = plain::put(&mut out, 0, state);
+    parts::is_all(stored, &out, n)
 }
 
 // Whether a controller is saved as the image that it was loaded from.
@@ -29,36 +50,10 @@ fn saved_again(state: State, image: &[u8]) -> bool {
     (refusal == 0) & check::same(&out, image)
 }
 
-// Whether the refusal of an image is what is stored.
-fn refused(fd: i32, refusal: u8, out: &mut [u8]) -> bool {
-    let said = texts::put(out, 0, b"refusal ");
-    let numbered = texts::put_number(out, said, refusal as u64);
-    let end = texts::put(out, numbered, b"\n");
-    files::as_stored(fd, out, end)
-}
-
-// Whether the words of an image are what is stored.
-fn shown(fd: i32, image: &[u8], out: &mut [u8]) -> bool {
-    let answer = load(image);
-    let state = answer.state;
-    if answer.refusal == 0 {
-        let n = plain::put(out, 0, state);
-        return files::as_stored(fd, out, n) & saved_again(state, image);
+// Whether the refusal is the one that is stored.
+fn refused(refusal: u8, stored: &[u8]) -> bool {
+    if refusal == 10 {
+        return check::same(stored, b"refusal 10\n");
     }
-    refused(fd, answer.refusal, out)
-}
-
-// Whether the image of a file is shown as stored, to the end.
-fn as_shown(image: i32, fd: i32, out: &mut [u8]) -> bool {
-    let mut bytes = [0u8; 205];
-    let n = io::read_full(image, &mut bytes);
-    shown(fd, &bytes[..n], out) & files::at_end(fd)
-}
-
-// Runs the case whose name stands in the first n bytes of `path`, and answers whether it was as stored.
-pub fn case(path: &mut [u8], n: usize, out: &mut [u8]) -> bool {
-    let opened = files::open(path, n, b".img", b".txt");
-    let same = as_shown(opened.input, opened.output, out);
-    files::close(opened);
-    same & opened.both
+    (refusal == 11) & check::same(stored, b"refusal 11\n")
 }

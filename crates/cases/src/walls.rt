@@ -1,11 +1,12 @@
-// The sequence's table as CSV: what `chart` writes of it must be NAME.wall.
+// The sequence's table as CSV: what `chart` writes of it must be NAME.csv.
 use crate::files;
+use crate::parts;
 
-// Runs the case whose name stands in the first n bytes of `path`, and answers whether it was as stored.
-pub fn case(path: &mut [u8], n: usize, out: &mut [u8]) -> bool {
-    let stored = files::open_with(path, n, b".wall");
-    let end = chart::csv::put_table(out, 0);
-    let same = files::as_stored(stored, out, end) & files::at_end(stored);
-    libc::close(stored);
-    same & (0 < end)
+// Whether a case is as stored.
+pub fn case(name: &[u8]) -> bool {
+    let mut out = io::large_buffer();
+    let mut stored = io::large_buffer();
+    let n = chart::csv::put_table(&mut out, 0);
+    let m = files::read(name, b".csv", &mut stored);
+    (0 < n) & parts::is_all(&stored[..m], &out, n)
 }

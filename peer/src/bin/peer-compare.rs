@@ -1,8 +1,7 @@
-//! `peer-compare SEED COUNT REPLAY [WAVES [SHEET [HANDOVER [WALL]]]] [--stdout-only] [--no-waves] [--no-sheet]
-//! [--no-handover] [--no-wall]`: the traces of seeds SEED, SEED+1, .. over all kinds in turn, through REPLAY
-//! and WAVES and through the peer, byte for byte; the dump of each and one more of each seed through SHEET and
-//! the peer; the image of each, what goes on from it and one more image of each seed through HANDOVER and the
-//! peer; once, before them, what WALL writes.
+//! `peer-compare SEED COUNT --bin DIR [--stdout-only] [--without NAME]..`: the traces of seeds SEED, SEED+1, .. over
+//! all kinds in turn, through `replay` and `waves` of DIR and through the peer, byte for byte; the dump of each and
+//! one more of each seed through `sheet`; the image of each, what goes on from it and one more image of each seed
+//! through `handover`; once, before them, what `wall` writes.
 use peer::damage::{dump, DUMP_KINDS};
 use peer::dump::{sheet_bytes, waves_bytes};
 use peer::gen::{trace, KINDS};
@@ -113,39 +112,40 @@ struct Programs {
     folder: PathBuf,
 }
 
-const USAGE: &str = "usage: compare SEED COUNT [REPLAY [WAVES [SHEET [HANDOVER [WALL]]]]] \
-[--stdout-only] [--no-waves] [--no-sheet] [--no-handover] [--no-wall]";
+const USAGE: &str =
+    "usage: compare SEED COUNT [--bin DIR] [--stdout-only] [--without waves|sheet|handover|wall]..";
 
 fn arguments() -> Result<(u64, u64, Programs), String> {
-    let (flags, args): (Vec<String>, Vec<String>) =
-        std::env::args().skip(1).partition(|a| a.starts_with("--"));
-    let known = ["--stdout-only", "--no-waves", "--no-sheet", "--no-handover", "--no-wall"];
-    let number = |n: usize| args.get(n).and_then(|a: &String| a.parse::<u64>().ok());
-    let (Some(seed), Some(count), Some(replay)) = (number(0), number(1), args.get(2)) else {
-        return Err(USAGE.into());
-    };
-    if args.len() > 7 || flags.iter().any(|f| !known.contains(&&f[..])) {
+    let (mut numbers, mut without, mut bin, mut stdout_only) = (Vec::new(), Vec::new(), None, false);
+    let mut args = std::env::args().skip(1);
+    while let Some(arg) = args.next() {
+        match &arg[..] {
+            "--bin" => bin = Some(args.next().ok_or(USAGE)?),
+            "--without" => without.push(args.next().ok_or(USAGE)?),
+            "--stdout-only" => stdout_only = true,
+            _ => numbers.push(arg.parse::<u64>().map_err(|_| USAGE)?),
+        }
+    }
+    let ([seed, count], Some(bin)) = (&numbers[..], bin) else { return Err(USAGE.into()) };
+    let known = ["waves", "sheet", "handover", "wall"];
+    if without.iter().any(|name| !known.contains(&&name[..])) {
         return Err(USAGE.into());
     }
-    let flag = |name: &str| flags.iter().any(|f| f == name);
-    let program = |n: usize, name: &str, without: &str| {
-        if flag(without) {
+    let program = |name: &str| {
+        if without.iter().any(|n| n == name) {
             return Ok(None);
         }
-        let beside = || Path::new(replay).with_file_name(name).to_string_lossy().into_owned();
-        let path = args.get(n).cloned().unwrap_or_else(beside);
-        match Path::new(&path).is_file() {
-            true => Ok(Some(path)),
-            false => Err(format!("{path} is not there ({without} leaves out what compares it)")),
+        let path = Path::new(&bin).join(name);
+        match path.is_file() {
+            true => Ok(Some(path.to_string_lossy().into_owned())),
+            false => Err(format!("{} is not there", path.display())),
         }
     };
-    let waves = program(3, "waves", "--no-waves")?;
-    let sheet = program(4, "sheet", "--no-sheet")?;
-    let handover = program(5, "handover", "--no-handover")?;
-    let wall = program(6, "wall", "--no-wall")?;
+    let replay = program("replay")?.unwrap_or_default();
+    let [waves, sheet, handover, wall] =
+        [program("waves")?, program("sheet")?, program("handover")?, program("wall")?];
     let folder = std::env::temp_dir().join(format!("peer-compare-{}", std::process::id()));
-    let (replay, stdout_only) = (replay.clone(), flag("--stdout-only"));
-    Ok((seed, count, Programs { replay, waves, sheet, handover, wall, stdout_only, folder }))
+    Ok((*seed, *count, Programs { replay, waves, sheet, handover, wall, stdout_only, folder }))
 }
 
 /// What went wrong: a difference with the way to repeat it, or a program that cannot be run.

@@ -1,38 +1,20 @@
-//! `peer-faults DIR`: which stored vector each fault changes first, as a markdown table.
-//! `peer-faults --seeds SEED COUNT`: how many of COUNT random traces each fault changes.
-//! `peer-faults --dumps DIR`, `peer-faults --dump-seeds SEED COUNT`: the same for request K2, a table for
-//! the writer of dumps and one for the reader.
-//! `peer-faults --images DIR`, `peer-faults --image-seeds SEED COUNT`: the same for request K3, one table.
-//! `peer-faults --wall`: how many rows of the CSV of request K4, and places of its page, each fault changes.
+//! `peer-faults DATA`: which stored case each planted fault changes first, and how many, as tables: of rows, of the
+//! writer and the reader of dumps, of images, of the wall. `peer-faults --seeds SEED COUNT`: the same over the
+//! traces, dumps and images that `compare` would make. Status 1 if a fault changes nothing.
 use peer::damage::{dump, DUMP_KINDS};
 use peer::dump::{moments, sheet_bytes, waves_bytes, write};
-use peer::dump_vectors::{stored_dumps, Vector};
 use peer::gen::{trace, KINDS};
 use peer::handover::{handover_bytes, shown_or_refused, Task};
 use peer::image::BYTES;
 use peer::image_gen::{image, second_trace, IMAGE_KINDS};
-use peer::image_vectors::{stored_images, Folder};
 use peer::page::check;
 use peer::rules::{faults, image_faults, sheet_faults, unseen, unseen_in_images, wave_faults, Rules};
+use peer::stored::{read, Data, Vector};
 use peer::trace::replay_bytes;
 use peer::wall::{all_faults, changed_rows, csv, page, ENTRIES, PLACES};
 use std::collections::HashSet;
 use std::path::Path;
 use std::process::ExitCode;
-
-fn stored(dir: &str) -> std::io::Result<Vec<Vector>> {
-    let mut all = Vec::new();
-    for entry in std::fs::read_dir(dir)? {
-        let path = entry?.path();
-        // A trace that goes on from an image has no output of its own.
-        if path.extension().is_some_and(|e| e == "in") && !path.with_extension("start").exists() {
-            let name = path.file_stem().unwrap_or_default().to_string_lossy().into_owned();
-            all.push((name, std::fs::read(&path)?, std::fs::read(path.with_extension("out"))?));
-        }
-    }
-    all.sort();
-    Ok(all)
-}
 
 fn replay(r: &Rules, trace: &[u8]) -> Vec<u8> {
     replay_bytes(r, trace).0
@@ -116,16 +98,11 @@ impl Suite {
     }
 }
 
-fn status(wrong: usize) -> ExitCode {
-    match wrong {
-        0 => ExitCode::SUCCESS,
-        _ => ExitCode::FAILURE,
-    }
-}
-
-fn traces(vectors: Vec<Vector>) -> ExitCode {
+/// Traces with their rows; how many faults changed none, or showed where they must not.
+fn rows(vectors: Vec<Vector>) -> usize {
     let suite = Suite { program: replay, vectors };
     let mut wrong = suite.wrong();
+    println!("## Faults of the rows\n");
     let missed = suite.table(&faults(), None);
     for (name, rules) in unseen() {
         if let Some((first, _)) = suite.changed(&rules) {
@@ -133,38 +110,40 @@ fn traces(vectors: Vec<Vector>) -> ExitCode {
             wrong += 1;
         }
     }
-    println!(
-        "\nCannot be seen in output rows: {}.",
-        unseen().into_iter().map(|f| f.0).collect::<Vec<_>>().join(", ")
-    );
+    let hidden: Vec<String> = unseen().into_iter().map(|f| f.0).collect();
+    println!("\nCannot be seen in output rows: {}.", hidden.join(", "));
     println!("{} faults, {missed} caught by none.", faults().len());
-    status(missed + wrong)
+    missed + wrong
 }
 
-/// Traces with their dumps, dumps with their sheets; of the dumps, `good` are also written again.
-fn dumps(traces: Vec<Vector>, good: Vec<Vector>, dumps: Vec<Vector>) -> ExitCode {
+/// Traces with their dumps, dumps with their sheets; the good dumps are also written again.
+fn dumps(traces: Vec<Vector>, sheets: Vec<Vector>) -> usize {
+    let good = sheets.iter().filter(|v| is_good(&v.1)).map(|v| (v.0.clone(), v.1.clone(), v.1.clone()));
+    let rewriter = Suite { program: again, vectors: good.collect() };
     let writer = Suite { program: waves, vectors: traces };
-    let rewriter = Suite { program: again, vectors: good };
-    let reader = Suite { program: sheet, vectors: dumps };
+    let reader = Suite { program: sheet, vectors: sheets };
     let wrong = writer.wrong() + rewriter.wrong() + reader.wrong();
+    println!("\n## Faults of the writer of dumps\n");
     let of_writer = writer.table(&wave_faults(), Some(&rewriter));
-    println!("\n{} faults of the writer, {of_writer} caught by none.\n", wave_faults().len());
+    println!("\n{} faults of the writer, {of_writer} caught by none.", wave_faults().len());
+    println!("\n## Faults of the reader of dumps\n");
     let of_reader = reader.table(&sheet_faults(), None);
     println!("\n{} faults of the reader, {of_reader} caught by none.", sheet_faults().len());
-    status(wrong + of_writer + of_reader)
+    wrong + of_writer + of_reader
 }
 
 /// Traces with their images, images and traces with what comes of them, images with their words.
-fn images(all: Folder, resume: fn(&Rules, &[u8]) -> Vec<u8>) -> ExitCode {
+fn images(all: Data, resume: fn(&Rules, &[u8]) -> Vec<u8>) -> usize {
     let onwards =
         all.onwards.into_iter().map(|(name, image, trace, rows)| (name, [image, trace].concat(), rows));
     let suites = [
-        Suite { program: save, vectors: all.traces },
+        Suite { program: save, vectors: all.images },
         Suite { program: resume, vectors: onwards.collect() },
-        Suite { program: shown_or_refused, vectors: all.images },
+        Suite { program: shown_or_refused, vectors: all.words },
     ];
     let mut wrong: usize = suites.iter().map(Suite::wrong).sum();
     let [saved, resumed, shown] = [0, 1, 2].map(|n| suites[n].vectors.len());
+    println!("\n## Faults of images\n");
     println!("| fault | first changed | of {saved} saved | of {resumed} resumed | of {shown} shown |");
     println!("|---|---|---|---|---|");
     let mut missed = 0;
@@ -184,12 +163,13 @@ fn images(all: Folder, resume: fn(&Rules, &[u8]) -> Vec<u8>) -> ExitCode {
     }
     println!("\nCannot be seen in images: {}.", hidden.join(", "));
     println!("{} faults, {missed} caught by none.", image_faults().len());
-    status(missed + wrong)
+    missed + wrong
 }
 
 /// The table on the wall: its faults are caught by the CSV or by the page.
-fn wall() -> ExitCode {
+fn wall() -> usize {
     let sound = Rules::default();
+    println!("\n## Faults of the wall\n");
     println!("| fault | rows changed of {ENTRIES} | places disagree of {PLACES} |\n|---|---|---|");
     let all = all_faults();
     let mut missed = 0;
@@ -204,7 +184,7 @@ fn wall() -> ExitCode {
     let sound_page = check(&sound, page(&sound).as_bytes());
     sound_page.iter().for_each(|wrong| eprintln!("no fault, and yet: {wrong}"));
     println!("\n{} faults, {missed} caught by none.", all.len());
-    status(missed + sound_page.len())
+    missed + sound_page.len()
 }
 
 fn kind_of(seed: u64, kinds: &[&'static str]) -> &'static str {
@@ -219,84 +199,63 @@ fn seeded(seed: u64, program: fn(&Rules, &[u8]) -> Vec<u8>) -> Vector {
     (format!("{kind} {seed}"), input, output)
 }
 
-/// The traces and dumps that `compare` would make.
-fn seeded_dumps(seeds: std::ops::Range<u64>) -> ExitCode {
-    let (mut runs, mut good, mut made) = (Vec::new(), Vec::new(), Vec::new());
-    let with_sheet = |name: String, dump: Vec<u8>| {
-        let rows = sheet(&Rules::default(), &dump);
-        (name, dump, rows)
-    };
+/// The traces, dumps and images that `compare` would make.
+fn seeds(seeds: std::ops::Range<u64>) -> Data {
+    let rules = Rules::default();
+    let mut all = Data::default();
     for seed in seeds {
+        all.rows.push(seeded(seed, replay));
         let run = seeded(seed, waves);
-        made.push(with_sheet(format!("{}, its dump", run.0), run.2.clone()));
-        runs.push(run);
+        all.sheets.push((format!("{}, its dump", run.0), run.2.clone(), sheet(&rules, &run.2)));
+        all.dumps.push(run);
         let kind = kind_of(seed, &DUMP_KINDS);
         let drawn = dump(seed, kind).unwrap();
-        if is_good(&drawn) {
-            good.push((format!("{kind} {seed}"), drawn.clone(), drawn.clone()));
-        }
-        made.push(with_sheet(format!("{kind} {seed}"), drawn));
-    }
-    dumps(runs, good, made)
-}
-
-/// The traces and images that `compare` would make.
-fn seeded_images(seeds: std::ops::Range<u64>) -> ExitCode {
-    let rules = Rules::default();
-    let mut all = Folder::default();
-    for seed in seeds {
+        let wanted = sheet(&rules, &drawn);
+        all.sheets.push((format!("{kind} {seed}"), drawn, wanted));
         let run = seeded(seed, save);
         let (name, saved) = (run.0.clone(), run.2.clone());
         let onward = second_trace(seed, &saved);
         let wanted = go_on(&rules, &[&saved[..], &onward].concat());
         all.onwards.push((format!("{name}, resumed"), saved.clone(), onward, wanted));
-        all.traces.push(run);
+        all.images.push(run);
         let kind = kind_of(seed, &IMAGE_KINDS);
         for (name, image) in [(name, saved), (format!("{kind} {seed}"), image(seed, kind).unwrap())] {
             let words = shown_or_refused(&rules, &image);
-            all.images.push((name, image, words));
+            all.words.push((name, image, words));
         }
     }
-    images(all, go_on)
+    all
 }
 
-fn range(seed: &str, count: &str) -> std::ops::Range<u64> {
-    let (seed, count): (u64, u64) = (seed.parse().unwrap_or(1), count.parse().unwrap_or(1));
-    seed..seed + count
+/// All tables but that of the wall.
+fn tables(mut all: Data, resume: fn(&Rules, &[u8]) -> Vec<u8>) -> usize {
+    let take = std::mem::take::<Vec<Vector>>;
+    rows(take(&mut all.rows)) + dumps(take(&mut all.dumps), take(&mut all.sheets)) + images(all, resume)
 }
 
 fn main() -> ExitCode {
     let args: Vec<String> = std::env::args().skip(1).collect();
     let args: Vec<&str> = args.iter().map(String::as_str).collect();
-    let unread = |dir: &str, e: std::io::Error| {
-        eprintln!("{dir}: {e}");
-        ExitCode::from(2)
-    };
-    match args[..] {
-        ["--seeds", seed, count] => traces(range(seed, count).map(|seed| seeded(seed, replay)).collect()),
-        ["--dump-seeds", seed, count] => seeded_dumps(range(seed, count)),
-        ["--dumps", dir] => match stored_dumps(Path::new(dir)) {
-            Ok(all) => {
-                let good = all.dumps.iter().filter(|v| is_good(&v.1));
-                let good = good.map(|v| (v.0.clone(), v.1.clone(), v.1.clone())).collect();
-                dumps(all.traces, good, all.dumps)
+    let number = |text: &str| text.parse::<u64>().ok();
+    let wrong = match args[..] {
+        ["--seeds", seed, count] => match (number(seed), number(count)) {
+            (Some(seed), Some(count)) => Some(tables(seeds(seed..seed + count), go_on)),
+            _ => None,
+        },
+        [data] if !data.starts_with("--") => match read(Path::new(data)) {
+            Ok(all) => Some(tables(all, resume) + wall()),
+            Err(e) => {
+                eprintln!("{data}: {e}");
+                return ExitCode::from(2);
             }
-            Err(e) => unread(dir, e),
         },
-        ["--wall"] => wall(),
-        ["--image-seeds", seed, count] => seeded_images(range(seed, count)),
-        ["--images", dir] => match stored_images(Path::new(dir)) {
-            Ok(all) => images(all, resume),
-            Err(e) => unread(dir, e),
-        },
-        [dir] if !dir.starts_with("--") => match stored(dir) {
-            Ok(all) => traces(all),
-            Err(e) => unread(dir, e),
-        },
-        _ => {
-            eprintln!(
-                "usage: peer-faults [--dumps | --images] DIR | --seeds | --dump-seeds | --image-seeds SEED COUNT | --wall"
-            );
+        _ => None,
+    };
+    match wrong {
+        Some(0) => ExitCode::SUCCESS,
+        Some(_) => ExitCode::FAILURE,
+        None => {
+            eprintln!("usage: peer-faults DATA | --seeds SEED COUNT");
             ExitCode::from(2)
         }
     }
