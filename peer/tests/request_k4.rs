@@ -517,7 +517,6 @@ fn the_program_with_its_words_and_files() {
 fn compare_runs_the_wall() {
     use std::os::unix::fs::PermissionsExt;
     let folder = folder("compare");
-    let replay = folder.join("replay");
     let put = |name: &str, text: &str| {
         let path = folder.join(name);
         std::fs::write(&path, format!("#!/bin/sh\n{text}\n")).unwrap();
@@ -526,16 +525,16 @@ fn compare_runs_the_wall() {
     let wall = env!("CARGO_BIN_EXE_peer-wall");
     put("replay", &format!("exec {}", env!("CARGO_BIN_EXE_peer-replay")));
     let compare = |more: &[&str]| {
-        let without = ["--no-waves", "--no-sheet", "--no-handover"];
-        let args = [&["1", "2", replay.to_str().unwrap()], &without[..], more].concat();
+        let without = ["--without", "waves", "--without", "sheet", "--without", "handover"];
+        let args = [&["1", "2", "--bin", folder.to_str().unwrap()], &without[..], more].concat();
         let args: Vec<&Path> = args.into_iter().map(Path::new).collect();
         let Output { status, stdout, stderr } = ran(env!("CARGO_BIN_EXE_peer-compare"), &args);
         (status.code(), String::from_utf8([stdout, stderr].concat()).unwrap())
     };
     // It is not there.
     let (status, said) = compare(&[]);
-    assert!(status == Some(2) && said.contains("wall is not there (--no-wall leaves out"), "{said}");
-    let (status, said) = compare(&["--no-wall"]);
+    assert!(status == Some(2) && said.contains("wall is not there (--without wall leaves it out"), "{said}");
+    let (status, said) = compare(&["--without", "wall"]);
     assert!(status == Some(0) && said.contains("wall         left out"), "{said}");
     // It is sound.
     put("wall", &format!("exec {wall} \"$@\""));

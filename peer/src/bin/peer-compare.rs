@@ -138,7 +138,7 @@ fn arguments() -> Result<(u64, u64, Programs), String> {
         let path = Path::new(&bin).join(name);
         match path.is_file() {
             true => Ok(Some(path.to_string_lossy().into_owned())),
-            false => Err(format!("{} is not there", path.display())),
+            false => Err(format!("{} is not there (--without {name} leaves it out)", path.display())),
         }
     };
     let replay = program("replay")?.unwrap_or_default();
