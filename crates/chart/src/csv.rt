@@ -9,9 +9,9 @@ ghost use Rattle.texts.specs.Puts.{putOf};
 ghost use Rattle.chart.specs.Csv.{placeFields, factField, factFields, askedFields, behind, csvRow, csvText};
 ghost use Rattle.chart.specs.Room.{PutIfRoom};
 use sequence::Aim;
-use table::Asked;
 use sequence::Place;
 use sequence::Seen;
+use table::Asked;
 
 // There are so many entries.
 const ENTRIES: usize = 512;

@@ -91,8 +91,8 @@ pub(crate) fn is_named(fact: Deciding) -> bool
 fn first_of(aim: Aim, from: Place, fact: Deciding, rest: Deciding) -> Deciding
     ensures { λ r. ⌜ r ≡ cond (decides aim from fact) fact rest ⌝ }
 {
-    let with = from.moved(aim, alone(fact));
-    let without = from.moved(aim, alone(Deciding::Nothing));
+    let with = table::moved(from, aim, alone(fact));
+    let without = table::moved(from, aim, alone(Deciding::Nothing));
     let same = compared(with, without);
     if same.doors & same.gears {
         return rest;

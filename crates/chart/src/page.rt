@@ -19,8 +19,8 @@ ghost use Rattle.chart.specs.Room.{PutIfRoom};
 use crate::differences;
 use crate::differences::Deciding;
 use sequence::Aim;
-use table::Asked;
 use sequence::Place;
+use table::Asked;
 
 // There are so many places of handle, doors and gears.
 const PLACES: u8 = 32;
@@ -129,7 +129,12 @@ fn put_place(text: &mut [u8], at: usize, k: u8) -> usize
     let framed = put_frame(text, at, k, from.moving_have_open());
     let numbered = put_numbers(text, framed, k);
     let said = put_when(text, numbered, fact);
-    let told = put_next(text, said, from, from.moved(aim, differences::alone(fact)));
+    let told = put_next(
+        text,
+        said,
+        from,
+        table::moved(from, aim, differences::alone(fact)),
+    );
     let done = put_else(text, told, aim, from, fact);
     texts::put(text, done, b"</g>\n")
 }
@@ -247,7 +252,7 @@ fn put_else(text: &mut [u8], at: usize, aim: Aim, from: Place, fact: Deciding) -
             b"<g transform='translate(0 176)'>\n<text class='when' x='28' y='56'>else</text>\n",
         );
         let none = differences::alone(Deciding::Nothing);
-        let told = put_next(text, begun, from, from.moved(aim, none));
+        let told = put_next(text, begun, from, table::moved(from, aim, none));
         return texts::put(text, told, b"</g>\n");
     }
     at
