@@ -13,6 +13,7 @@ use Rattle.image.specs.Images.{imageOf}
 use Rattle.lines.specs.Rows.{before, rowsOf}
 use Rattle.trace.specs.Numbers.{digitsFrom, numberOf as numberIn, tripleOf}
 use Rattle.trace.specs.Rows.{fieldsOf, triplesOf, formOf, inTurn, readRow}
+use Rattle.names.specs.Words.{sensorNames}
 use Rattle.trace.specs.Header.{headerNames, headerText, sameText}
 use Rattle.reading.specs.Rows.{endsAt, headerRow, answerTo, shownRow, noSample, traceRow, rowOf, endOf}
 use Rattle.reading.specs.Whole.{readTo}
@@ -24,7 +25,7 @@ pub as-worked : AllAsWanted handingCases
 unfolding
     rules startedAt
     numberOf fourBytes bytesOf sensorItems sensorsItems orderItems ordersItems restItems coreItems itemsOf imageOf
-    before rowsOf digitsFrom numberIn tripleOf fieldsOf triplesOf formOf inTurn readRow headerNames headerText sameText joinedByCommas
+    before rowsOf digitsFrom numberIn tripleOf fieldsOf triplesOf formOf inTurn readRow headerNames sensorNames headerText sameText joinedByCommas
     endsAt headerRow answerTo shownRow noSample traceRow rowOf endOf readTo
     ended trace rowsOfS
     imageLeft savedOf imageOfS saves handingCases

@@ -12,6 +12,7 @@ use Rattle.lines.specs.Rows.{before, rowsOf}
 use Rattle.trace.specs.Numbers.{digitsFrom, numberOf, tripleOf}
 use Rattle.trace.specs.Rows.{fieldsOf, triplesOf, formOf, inTurn, readRow}
 use Rattle.trace.specs.Header.{headerNames, headerText as traceHeader, sameText}
+use Rattle.names.specs.Words.{sensorNames, orderNames, lampNames}
 use Rattle.output.specs.Rows.{headerText, rowText, refusalText}
 use Rattle.reading.specs.Rows.{endsAt, headerRow, answerTo, shownRow, noSample, traceRow, rowOf, endOf, nothingRead}
 use Rattle.reading.specs.Whole.{readTo}
@@ -21,8 +22,8 @@ use Rattle.lesson.specs.Cases.{ended, trace, output, replays, rowsOfS, s
 pub worked : AllAsWanted (sessionS ∷ handedOver ∷ afterTheLastLabel ∷ early)
 unfolding
     rules startedAt
-    before rowsOf digitsFrom numberOf tripleOf fieldsOf triplesOf formOf inTurn readRow headerNames traceHeader sameText
-    decimal decimalUpTo joinedByCommas headerText rowText refusalText
+    before rowsOf digitsFrom numberOf tripleOf fieldsOf triplesOf formOf inTurn readRow headerNames sensorNames traceHeader sameText
+    decimal decimalUpTo joinedByCommas orderNames lampNames headerText rowText refusalText
     endsAt headerRow answerTo shownRow noSample traceRow rowOf endOf nothingRead readTo textOf writtenOf replayOf resumedOf
     ended trace output replays rowsOfS sessionS handedOver early afterTheLastLabel
 worked = refl

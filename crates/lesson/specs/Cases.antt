@@ -5,13 +5,13 @@ use mathlib.Core.List.{List, [], _∷_, _++_}
 use Prim.Native.Nat.{ℕ}
 use Prim.Native.String.{String}
 use lib.ListN.{take, drop, replicate}
-use Rattle.common.specs.Ascii.{ascii}
+use Rattle.common.specs.Ascii.{ascii, crlf}
 use Rattle.common.specs.Case.{Case}
 use Rattle.lines.specs.Rows.{rowsOf}
 use Rattle.trace.specs.declared.Due.the-variants.{Label}
 use Rattle.trace.specs.Header.{headerText as traceHeader}
 use Rattle.controller.specs.Start.{freshOf}
-use Rattle.output.specs.Rows.{headerText, crlf}
+use Rattle.output.specs.Rows.{headerText}
 use Rattle.reading.specs.declared.Phase.the-variants.{Rows}
 use Rattle.reading.specs.Rows.{nothingRead}
 use Rattle.reading.specs.Whole.{readTo}

@@ -97,30 +97,28 @@ pub fn put_cause(line: &mut [u8], at: usize, k: usize) -> usize
     tables::put_word(line, at, &tables::CAUSES, &tables::CAUSE_STARTS, k)
 }
 
-// Puts the word of the doors.
+// Puts the word of the doors. (On the path of every output row a word's own bytes cost less than a part of a table.)
 pub fn put_doors(line: &mut [u8], at: usize, doors: Doors) -> usize
     ensures { λ r. ⌜ (r, now (line .exit)) ≡ putOf (now (line .entry)) at (doorsWord doors) ⌝ }
 {
-    tables::put_word(
-        line,
-        at,
-        &tables::DOORS,
-        &tables::DOORS_STARTS,
-        doors.number() as usize,
-    )
+    match doors {
+        Doors::Closed => texts::put(line, at, b"CLOSED"),
+        Doors::Opening => texts::put(line, at, b"OPENING"),
+        Doors::Open => texts::put(line, at, b"OPEN"),
+        Doors::Closing => texts::put(line, at, b"CLOSING"),
+    }
 }
 
 // Puts the word of the gears.
 pub fn put_gears(line: &mut [u8], at: usize, gears: Gears) -> usize
     ensures { λ r. ⌜ (r, now (line .exit)) ≡ putOf (now (line .entry)) at (gearsWord gears) ⌝ }
 {
-    tables::put_word(
-        line,
-        at,
-        &tables::GEARS,
-        &tables::GEARS_STARTS,
-        gears.number() as usize,
-    )
+    match gears {
+        Gears::Retracted => texts::put(line, at, b"RETRACTED"),
+        Gears::Extending => texts::put(line, at, b"EXTENDING"),
+        Gears::Extended => texts::put(line, at, b"EXTENDED"),
+        Gears::Retracting => texts::put(line, at, b"RETRACTING"),
+    }
 }
 
 // Puts the word of the handle that has this aim.

@@ -70,16 +70,6 @@ pub(crate) const LAMPS: [u8; 16] = *b"green,orange,red";
 
 pub(crate) const LAMP_STARTS: [usize; 4] = [0, 6, 13, 17];
 
-// The doors' words, by their number.
-pub(crate) const DOORS: [u8; 27] = *b"CLOSED,OPENING,OPEN,CLOSING";
-
-pub(crate) const DOORS_STARTS: [usize; 5] = [0, 7, 15, 20, 28];
-
-// The gears' words, by their number.
-pub(crate) const GEARS: [u8; 39] = *b"RETRACTED,EXTENDING,EXTENDED,RETRACTING";
-
-pub(crate) const GEARS_STARTS: [usize; 5] = [0, 10, 20, 29, 40];
-
 // The handle's words, by its number.
 pub(crate) const HANDLES: [u8; 7] = *b"up,down";
 

@@ -2,7 +2,7 @@
 -- Assumes nothing.
 use Prim.Native.Nat.{ℕ, _+_, _^_, _<_, _≤_}
 use native.Mathlib.Omega.{arith}
-use mathlib.Core.Bool.{Bool, true, false, _||_}
+use mathlib.Core.Bool.{Bool, true, false, not, _||_}
 use mathlib.Core.Path.{_≡_, ap, _∙_}
 use lib.Dec.{T, lit≤}
 use lib.ListN.{length, length-append}
@@ -13,33 +13,43 @@ use Rattle.sequence.specs.declared.Doors.{Doors}
 use Rattle.sequence.specs.declared.Doors.the-variants.{Closed, Opening, Open, Closing}
 use Rattle.sequence.specs.declared.Gears.{Gears}
 use Rattle.sequence.specs.declared.Gears.the-variants.{Retracted, Extending, Extended, Retracting}
+use Rattle.sequence.specs.Places.{areOpen, areMoving, movingHaveOpen}
+use Rattle.names.specs.Words.{doorsWord, gearsWord}
+use Rattle.names.proofs.Lengths.{doors-length, gears-length}
 use Rattle.controller.specs.declared.Shown.{Shown}
-use Rattle.output.specs.Rows.{doorsWord, gearsWord, rowText, refusalText}
-use Rattle.output.proofs.Texts.{row-text, refusal-text, shown-text}
+use Rattle.output.specs.Pieces.{headPiece, tailPiece}
+use Rattle.output.specs.Rows.{shownFields, rowText, refusalText}
+use Rattle.output.proofs.Texts.{row-text, refusal-text}
 
 -- ---- The length of a row, whatever it shows.
 
+pub head-length : (number code : ℕ) → length (headPiece number code) ≡ length (decimal number) + length (decimal code) + 1
+head-length number code = simp length-append (omega arith)
+
+pub shown-length : (s : Shown) → length (tailPiece (shownFields s)) ≡ length (doorsWord (s .doors)) + length (gearsWord (s .gears)) + 20
+unfolding joinedByCommas
+shown-length s = simp length-append (omega arith)
+
 pub row-length : (label code : ℕ) (s : Shown)
     → length (rowText label code s) ≡ length (decimal label) + length (decimal code) + length (doorsWord (s .doors)) + length (gearsWord (s .gears)) + 21
-row-length label code s = ap length (row-text label code s) ∙ rw (← shown-text s) (simp length-append (omega arith))
+row-length label code s =
+    let whole = ap length (row-text label code s) ∙ length-append (headPiece label code) (tailPiece (shownFields s)) in
+    omega (arith, head-length label code, shown-length s)
 
 pub refusal-length : (line refusal : ℕ) → length (refusalText line refusal) ≡ length (decimal line) + length (decimal refusal) + 13
 unfolding joinedByCommas
 refusal-length line refusal = ap length (refusal-text line refusal) ∙ simp length-append (omega arith)
 
--- ---- The longest words.
+-- ---- What fits a line of 64 bytes.
 
-doors-length : (d : Doors) → length (doorsWord d) ≤ 7
-doors-length Closed = lit≤ tt
-doors-length Opening = lit≤ tt
-doors-length Open = lit≤ tt
-doors-length Closing = lit≤ tt
+-- A number of 64 bits and one of 8 bits.
+pub head-at-most-24 : (number code : ℕ) → number < 2 ^ 64 → code < 2 ^ 8 → length (headPiece number code) ≤ 24
+head-at-most-24 number code n c =
+    omega (arith, head-length number code, decimal-length 19 number (omega arith), decimal-length 2 code (omega arith))
 
-gears-length : (g : Gears) → length (gearsWord g) ≤ 10
-gears-length Retracted = lit≤ tt
-gears-length Extending = lit≤ tt
-gears-length Extended = lit≤ tt
-gears-length Retracting = lit≤ tt
+-- What is shown.
+pub shown-at-most-37 : (s : Shown) → length (tailPiece (shownFields s)) ≤ 37
+shown-at-most-37 s = omega (arith, shown-length s, doors-length (s .doors), gears-length (s .gears))
 
 -- ---- A row of any label and any code of one digit is at most 49 bytes long, whatever it shows.
 
@@ -54,40 +64,33 @@ row-at-most-49 label code s l c =
       gears-length (s .gears),
     )
 
--- ---- Where the gears move with doors OPEN alone, as the sequence has it, 48.
+-- ---- Where moving gears have doors OPEN, as the sequence has it, 48.
 
-abbrev pub isOpen : Doors → Bool
-isOpen Closed = false
-isOpen Opening = false
-isOpen Open = true
-isOpen Closing = false
-
-abbrev pub atRest : Gears → Bool
-atRest Retracted = true
-atRest Extending = false
-atRest Extended = true
-atRest Retracting = false
-
-at-rest-length : (g : Gears) → T (atRest g) → length (gearsWord g) ≤ 9
+at-rest-length : (g : Gears) → T (not (areMoving g)) → length (gearsWord g) ≤ 9
 at-rest-length Retracted h = lit≤ tt
 at-rest-length Extending h = absurd h
 at-rest-length Extended h = lit≤ tt
 at-rest-length Retracting h = absurd h
 
-words-length : (d : Doors) (g : Gears) → T (isOpen d || atRest g) → length (doorsWord d) + length (gearsWord g) ≤ 16
-words-length Open g h = omega (arith, gears-length g)
-words-length Closed g h = omega (arith, at-rest-length g h)
-words-length Opening g h = omega (arith, at-rest-length g h)
-words-length Closing g h = omega (arith, at-rest-length g h)
+open-length : (d : Doors) → T (areOpen d) → length (doorsWord d) ≤ 4
+open-length Closed h = absurd h
+open-length Opening h = absurd h
+open-length Open h = lit≤ tt
+open-length Closing h = absurd h
 
-pub row-at-most-48 : (label code : ℕ) (s : Shown) → label < 2 ^ 32 → code < 10 → T (isOpen (s .doors) || atRest (s .gears)) → length (rowText label code s) ≤ 48
+words-length : (d : Doors) (g : Gears) (rests : Bool) → T (rests || areOpen d) → (T rests → length (gearsWord g) ≤ 9) → length (doorsWord d) + length (gearsWord g) ≤ 16
+words-length d g true h rest = omega (arith, doors-length d, rest tt)
+words-length d g false h rest = omega (arith, open-length d h, gears-length g)
+
+pub row-at-most-48 : (label code : ℕ) (s : Shown) → label < 2 ^ 32 → code < 10 → T (movingHaveOpen (record { doors = s .doors; gears = s .gears })) → length (rowText label code s) ≤ 48
+unfolding movingHaveOpen
 row-at-most-48 label code s l c h =
     omega (
       arith,
       row-length label code s,
       decimal-length 9 label (omega arith),
       decimal-length 0 code (omega arith),
-      words-length (s .doors) (s .gears) h,
+      words-length (s .doors) (s .gears) (not (areMoving (s .gears))) h (at-rest-length (s .gears)),
     )
 
 -- ---- A refusal's row on a line that a trace can have, with a refusal of one digit, is at most 24.

@@ -2,12 +2,11 @@
 -- Assumes nothing.
 use Prim.Native.Nat.{ℕ, _+_}
 use mathlib.Core.List.{List, [], _∷_, _++_}
-use Rattle.common.specs.Ascii.{comma, joinedByCommas}
+use Rattle.common.specs.Ascii.{comma, crlf, joinedByCommas}
 use Rattle.common.specs.Bits.{bit}
 use Rattle.common.specs.Decimal.{decimal, digit0}
 use Rattle.controller.specs.declared.Lights.{Lights}
 use Rattle.controller.specs.declared.Shown.{Shown}
-use Rattle.output.specs.Rows.{crlf}
 
 -- The first two fields of a row: a label or a line number, and 0 or the refusal.
 abbrev pub headPiece : ℕ → ℕ → List ℕ

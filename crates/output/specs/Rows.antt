@@ -6,39 +6,19 @@ use mathlib.Core.List.{List, [], _∷_, _++_}
 use lib.Dec.{ltb}
 use lib.ListN.{length, drop, replicate}
 use Rattle.common.specs.Answers.{Answer, gives, refuses}
-use Rattle.common.specs.Ascii.{ascii, joinedByCommas}
+use Rattle.common.specs.Ascii.{ascii, joinedByCommas, crlf}
 use Rattle.common.specs.Bits.{bit}
 use Rattle.common.specs.Decimal.{decimal, digit0}
-use Rattle.sequence.specs.declared.Doors.{Doors}
-use Rattle.sequence.specs.declared.Doors.the-variants.{Closed, Opening, Open, Closing}
-use Rattle.sequence.specs.declared.Gears.{Gears}
-use Rattle.sequence.specs.declared.Gears.the-variants.{Retracted, Extending, Extended, Retracting}
+use Rattle.names.specs.Words.{orderNames, lampNames, doorsWord, gearsWord}
 use Rattle.controller.specs.declared.Shown.{Shown}
 
--- Each row ends in CR and LF.
-abbrev pub crlf : List ℕ
-crlf = 13 ∷ 10 ∷ []
-
--- The output header.
+-- The output header: label and code, the orders, doors and gears, the lamps.
 unfoldable pub headerText : List ℕ
-headerText = ascii "step,code,general_EV,close_EV,open_EV,retract_EV,extend_EV,doors,gears,green,orange,red" ++ crlf
+headerText = joinedByCommas (ascii "step" ∷ ascii "code" ∷ (orderNames ++ ascii "doors" ∷ ascii "gears" ∷ lampNames)) ++ crlf
 
 -- An order or a light: 1 for on, 0 for off.
 abbrev pub onOff : Bool → List ℕ
 onOff on = (digit0 + bit on) ∷ []
-
--- Doors and gears by the words of "Sequence".
-abbrev pub doorsWord : Doors → List ℕ
-doorsWord Closed = ascii "CLOSED"
-doorsWord Opening = ascii "OPENING"
-doorsWord Open = ascii "OPEN"
-doorsWord Closing = ascii "CLOSING"
-
-abbrev pub gearsWord : Gears → List ℕ
-gearsWord Retracted = ascii "RETRACTED"
-gearsWord Extending = ascii "EXTENDING"
-gearsWord Extended = ascii "EXTENDED"
-gearsWord Retracting = ascii "RETRACTING"
 
 -- What is shown of a state: the five orders, doors, gears, green, orange, red.
 abbrev pub shownFields : Shown → List (List ℕ)

@@ -15,6 +15,7 @@ use Rattle.trace.specs.declared.Due.{Due}
 use Rattle.trace.specs.declared.Due.the-variants.{Label, Nothing as NoLabel}
 use Rattle.trace.specs.Numbers.{greatest}
 use Rattle.trace.specs.Rows.{readRow}
+use Rattle.names.specs.Words.{sensorNames}
 use Rattle.trace.specs.Header.{headerNames, headerText as traceHeader, sameText}
 use Rattle.trace.proofs.Laws.{what-is-taken-is-of-the-form}
 use Rattle.controller.specs.declared.State.{State}
@@ -53,7 +54,7 @@ row-0-is-a-fresh-start stamp = refl
 -- Behind the header row 0 is due, and the controller is as it was.
 pub behind-the-header : (state : State)
     → rowOf (readFrom state) traceHeader ≡ untold (record { phase = Rows (Label 0); state = state })
-unfolding rowOf headerRow traceHeader headerNames joinedByCommas sameText
+unfolding rowOf headerRow traceHeader headerNames sensorNames joinedByCommas sameText
 behind-the-header state = refl
 
 -- A row that is read there is row 0: it is answered with 0, and the controller goes on at its stamp.

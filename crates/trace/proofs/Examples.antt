@@ -11,6 +11,7 @@ use Rattle.trace.specs.declared.Due.the-variants.{Label, Nothing}
 use Rattle.trace.specs.Numbers.{digitsFrom, numberOf, tripleOf}
 use Rattle.trace.specs.Rows.{upToComma, fieldPart, fieldsOf, triplesOf, formOf, inTurn, readRow}
 use Rattle.trace.specs.Written.{tripleTexts, rowText}
+use Rattle.names.specs.Words.{sensorNames}
 use Rattle.trace.specs.Header.{headerNames, headerText}
 
 -- Session S, row 0.
@@ -92,5 +93,5 @@ a-part-of-the-row = refl
 header-row :
     headerText
     ≡ ascii "step,stamp,handle,analogical_switch,gear_extended_front,gear_extended_left,gear_extended_right,gear_retracted_front,gear_retracted_left,gear_retracted_right,gear_shock_absorber_front,gear_shock_absorber_left,gear_shock_absorber_right,door_closed_front,door_closed_left,door_closed_right,door_open_front,door_open_left,door_open_right,circuit_pressurized"
-unfolding headerText headerNames joinedByCommas
+unfolding headerText headerNames sensorNames joinedByCommas
 header-row = refl

@@ -15,7 +15,7 @@ use Rattle.trace.specs.declared.Due.{Due}
 use Rattle.trace.specs.declared.Number.{Number}
 use Rattle.trace.specs.Answers.{numberSays}
 use Rattle.trace.specs.Numbers.{numberOf}
-use Rattle.trace.specs.Rows.{upToComma, fieldsOf, fieldsFrom, triplesOf, Parts, parts, formOf, inTurn, kept, readRow}
+use Rattle.trace.specs.Rows.{upToComma, fieldsOf, fieldsFrom, triplesOf, Parts, parts, formOf, inTurn, kept, longestRow, readRow}
 use Rattle.trace.proofs.Cases.{at-most}
 use Rattle.trace.proofs.Fields.{from-past, split, first-field, taken-within}
 
@@ -58,7 +58,7 @@ pub heard : {r told : Number} {s field : List ℕ} → r ≡ told → numberSays
 heard p h e = ap numberSays (sym p) ∙ h ∙ ap numberOf e
 
 -- With a buffer of 54 bytes and a row that is not too long, form and label decide.
-pub by-form : (row : List ℕ) (due : Due) (buffer : List ℕ) {form answer : Answer Parts} → length buffer ≡ 54 → length row ≤ 512
+pub by-form : (row : List ℕ) (due : Due) (buffer : List ℕ) {form answer : Answer Parts} → length buffer ≡ 54 → length row ≤ longestRow
     → form ≡ formOf (fieldsOf row) → answer ≡ inTurn form due → readRow row due buffer ≡ kept answer buffer
 unfolding readRow
 by-form row due buffer size short h k = simp (eq-eqb _ _ size, le-ltb _ _ short, ← h, ← k)

@@ -15,7 +15,7 @@ use Rattle.common.proofs.Decimals.{decimal-length}
 use Rattle.trace.specs.declared.Due.{Due}
 use Rattle.trace.specs.declared.Due.the-variants.{Label, Nothing}
 use Rattle.trace.specs.Numbers.{greatest, numberOf}
-use Rattle.trace.specs.Rows.{fieldsOf, triplesOf, Parts, parts, formOf, inTurn, kept, readRow}
+use Rattle.trace.specs.Rows.{fieldsOf, triplesOf, Parts, parts, formOf, inTurn, kept, longestRow, readRow}
 use Rattle.trace.specs.Header.{headerText, sameText}
 use Rattle.trace.specs.Written.{tripleTexts, rowText, InForm}
 use Rattle.trace.proofs.Cases.{refusal-gives-nothing}
@@ -47,7 +47,7 @@ unfolding rowText decimal
 row-fields l s bits =
     split-joined (decimal l) (decimal s ∷ tripleTexts 18 bits) (decimal-over 20 l, (decimal-over 20 s, texts-over 18 bits))
 
-row-length : (l s : ℕ) (bits : List ℕ) → l ≤ greatest → s ≤ greatest → length (rowText l s bits) ≤ 512
+row-length : (l s : ℕ) (bits : List ℕ) → l ≤ greatest → s ≤ greatest → length (rowText l s bits) ≤ longestRow
 unfolding rowText joinedByCommas
 row-length l s bits p q =
     simp length-append (omega (arith, texts-length (decimal s) 18 bits, decimal-length 9 l (omega arith), decimal-length 9 s (omega arith)))
@@ -105,7 +105,7 @@ pub what-is-taken-is-of-the-form : (row : List ℕ) (due : Due) (buffer : List �
     → readRow row due buffer ≡ (gives (l, s), after) → TakenRight row due buffer l s after
 unfolding readRow inTurn
 what-is-taken-is-of-the-form row due buffer l s after h =
-    by-tests (eqb (length buffer) 54) (ltb 512 (length row)) refl h where
+    by-tests (eqb (length buffer) 54) (ltb longestRow (length row)) refl h where
       by-label : (p : Parts) (d : ℕ) (t : Bool) → formOf (fieldsOf row) ≡ gives p → eqb (p .label) d ≡ t → length buffer ≡ 54
           → kept (cond t (gives p) (refuses 7)) buffer ≡ (gives (l, s), after) → TakenRight row (Label d) buffer l s after
       by-label p d true form due size e =

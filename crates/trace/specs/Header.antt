@@ -5,7 +5,7 @@ use mathlib.Core.Bool.{Bool, true, false, _&&_}
 use mathlib.Core.List.{List, [], _∷_}
 use lib.Dec.{eqb}
 use Rattle.common.specs.Ascii.{ascii, joinedByCommas}
-use Rattle.common.specs.Names.{sensorNames}
+use Rattle.names.specs.Words.{sensorNames}
 
 -- `step,stamp` and the 18 sensor names, in the order of "The sample".
 unfoldable pub headerNames : List (List ℕ)

@@ -83,9 +83,13 @@ abbrev pub kept : Answer Parts → List ℕ → Answer (ℕ × ℕ) × List ℕ
 kept (gives p) buffer = (gives (p .label, p .stamp), p .sample)
 kept (refuses n) buffer = (refuses n, buffer)
 
+-- The longest row without its line break: refusal 6 is for a row over 512 bytes.
+abbrev pub longestRow : ℕ
+longestRow = 512
+
 -- "For a row: 8, 6, 5, then 7. The first that applies is given." The answer, and what the lent buffer then holds.
 unfoldable pub readRow : List ℕ → Due → List ℕ → Answer (ℕ × ℕ) × List ℕ
 readRow row due buffer =
     cond (not (eqb (length buffer) 54)) (refuses 8, buffer)
-    (cond (ltb 512 (length row)) (refuses 6, buffer)
+    (cond (ltb longestRow (length row)) (refuses 6, buffer)
     (kept (inTurn (formOf (fieldsOf row)) due) buffer))

@@ -12,6 +12,9 @@ ghost use Rattle.trace.specs.Numbers.{numberOf, tripleOf, isBit};
 ghost use Rattle.trace.specs.Rows.{fieldPart, fieldsOf, fieldsFrom, triplesOf, formOf, withSample, inTurn, readRow};
 ghost use Rattle.trace.specs.Header.{headerText, sameText};
 
+// A row has at most so many bytes, without its line break.
+pub const LONGEST_ROW: usize = 512;
+
 // A field that should be a number.
 pub enum Number {
     Value(u32),
@@ -84,13 +87,6 @@ pub fn read_number(field: &[u8]) -> Number
     Number::Value(value as u32)
 }
 
-// A digit 0 or 1.
-fn is_bit(byte: u8) -> bool
-    ensures { λ r. ⌜ r ≡ isBit byte ⌝ }
-{
-    (byte == b'0') | (byte == b'1')
-}
-
 // Three digits 0 or 1, as the channels' values.
 pub fn read_triple(field: &[u8]) -> Triple
     ensures { λ r. ⌜ tripleSays r ≡ tripleOf (now (field .entry)) ⌝ }
@@ -105,6 +101,43 @@ pub fn read_triple(field: &[u8]) -> Triple
         return Triple::Channels(a - b'0', b - b'0', c - b'0');
     }
     Triple::NoTriple
+}
+
+// Reads a row, without its line break, whose label must be the one due, into a sample buffer of 54 bytes.
+pub fn read_row(row: &[u8], due: Due, sample: &mut [u8]) -> Row
+    ensures { λ r. ⌜ (rowSays r, now (sample .exit)) ≡ readRow (now (row .entry)) due (now (sample .entry)) ⌝ }
+{
+    if sample.len() != 54 {
+        return Row::Refused(8);
+    }
+    if LONGEST_ROW < row.len() {
+        return Row::Refused(6);
+    }
+    let mut channels = [0u8; 54];
+    let form = read_form(row, &mut channels);
+    let answer = in_turn(form, due);
+    let Row::Taken { label: _, stamp: _ } = answer else {
+        return answer;
+    };
+    bytes::copy(&channels, sample);
+    answer
+}
+
+// Whether a row is the header of a trace.
+pub fn is_header(row: &[u8]) -> bool
+    ensures { λ r. ⌜ r ≡ sameText (now (row .entry)) headerText ⌝ }
+{
+    let mut header = [0u8; 353];
+    let named = texts::put(&mut header, 0, b"step,stamp,");
+    names::put_sensor_names(&mut header, named);
+    check::same(row, &header)
+}
+
+// A digit 0 or 1.
+fn is_bit(byte: u8) -> bool
+    ensures { λ r. ⌜ r ≡ isBit byte ⌝ }
+{
+    (byte == b'0') | (byte == b'1')
 }
 
 // Eighteen triples from `at` to the row's end, and no more, into `channels`: whether they are there.
@@ -162,51 +195,4 @@ fn in_turn(form: Row, due: Due) -> Row
         return Row::Refused(7);
     }
     form
-}
-
-// Reads a row, without its line break, whose label must be the one due, into a sample buffer of 54 bytes.
-pub fn read_row(row: &[u8], due: Due, sample: &mut [u8]) -> Row
-    ensures { λ r. ⌜ (rowSays r, now (sample .exit)) ≡ readRow (now (row .entry)) due (now (sample .entry)) ⌝ }
-{
-    if sample.len() != 54 {
-        return Row::Refused(8);
-    }
-    if 512 < row.len() {
-        return Row::Refused(6);
-    }
-    let mut channels = [0u8; 54];
-    let form = read_form(row, &mut channels);
-    let answer = in_turn(form, due);
-    let Row::Taken { label: _, stamp: _ } = answer else {
-        return answer;
-    };
-    bytes::copy(&channels, sample);
-    answer
-}
-
-// Whether two texts are the same.
-fn same(a: &[u8], b: &[u8]) -> bool
-    ensures { λ r. ⌜ r ≡ sameText (now (a .entry)) (now (b .entry)) ⌝ }
-{
-    if a.len() != b.len() {
-        return false;
-    }
-    let mut i = 0;
-    while i < a.len() {
-        if a[i] != b[i] {
-            return false;
-        }
-        i += 1;
-    }
-    true
-}
-
-// Whether a row is the header of a trace.
-pub fn is_header(row: &[u8]) -> bool
-    ensures { λ r. ⌜ r ≡ sameText (now (row .entry)) headerText ⌝ }
-{
-    same(
-        row,
-        b"step,stamp,handle,analogical_switch,gear_extended_front,gear_extended_left,gear_extended_right,gear_retracted_front,gear_retracted_left,gear_retracted_right,gear_shock_absorber_front,gear_shock_absorber_left,gear_shock_absorber_right,door_closed_front,door_closed_left,door_closed_right,door_open_front,door_open_left,door_open_right,circuit_pressurized",
-    )
 }

@@ -1,46 +1,90 @@
--- `names::put_doors` meets its contract: the text holds the doors' words by their number.
+-- `names::put_doors` meets its contract: each arm puts its own word.
 -- Assumes nothing.
 use borrow.Author.Needs.{needs}
-use Rattle.common.specs.Ascii.{joinedByCommas}
-use Rattle.names.proofs.Numbered.{doorsWords, doors-word}
-use Rattle.names.proofs.Starts.{fits, word-is-entry}
 use Rattle.names.proofs.put_doors.Statement.{statement}
 use Rattle.names.proofs.put_doors.Tie as tie
 
-slice-aggregate-put-word : tie.Need-slice-aggregate-put-word
-slice-aggregate-put-word c = search needs
+enum-told : tie.Need-enum-told
+enum-told c = search needs
 
-slice-aggregate-put-word-2 : tie.Need-slice-aggregate-put-word-2
-slice-aggregate-put-word-2 c = search needs
+slice-aggregate-put : tie.Need-slice-aggregate-put
+slice-aggregate-put c = search needs
 
-number-requires : tie.Need-number-requires
-number-requires c κs = search needs
+put-requires : tie.Need-put-requires
+put-requires c κs = search needs
 
-cast-put-word : tie.Need-cast-put-word
-cast-put-word c = search needs
+enum-told-2 : tie.Need-enum-told-2
+enum-told-2 c = search needs
 
-put-word-requires : tie.Need-put-word-requires
-unfolding joinedByCommas
-put-word-requires c κs = fits doorsWords _
+slice-aggregate-put-2 : tie.Need-slice-aggregate-put-2
+slice-aggregate-put-2 c = search needs
+
+put-requires-2 : tie.Need-put-requires-2
+put-requires-2 c κs = search needs
+
+enum-told-3 : tie.Need-enum-told-3
+enum-told-3 c = search needs
+
+slice-aggregate-put-3 : tie.Need-slice-aggregate-put-3
+slice-aggregate-put-3 c = search needs
+
+put-requires-3 : tie.Need-put-requires-3
+put-requires-3 c κs = search needs
+
+enum-told-4 : tie.Need-enum-told-4
+enum-told-4 c = search needs
+
+slice-aggregate-put-4 : tie.Need-slice-aggregate-put-4
+slice-aggregate-put-4 c = search needs
+
+put-requires-4 : tie.Need-put-requires-4
+put-requires-4 c κs = search needs
 
 same-length : tie.Need-same-length
 same-length c = search needs
 
 returns : tie.Need-returns
-unfolding joinedByCommas
-returns c =
-    let put = c .before .before in
-    let number = put .before in
-    rw (word-is-entry doorsWords (number .number .result), number .number .ensures, doors-word (number .before .before .before .before .before .args .doors)) at (put .put-word .ensures)
+returns c = rw (c .before .before .before .before .before .enum-told .given .1) (c .before .before .put .ensures)
+
+same-length-2 : tie.Need-same-length-2
+same-length-2 c = search needs
+
+returns-2 : tie.Need-returns-2
+returns-2 c = rw (c .before .before .before .before .before .enum-told2 .given .1) (c .before .before .put2 .ensures)
+
+same-length-3 : tie.Need-same-length-3
+same-length-3 c = search needs
+
+returns-3 : tie.Need-returns-3
+returns-3 c = rw (c .before .before .before .before .before .enum-told3 .given .1) (c .before .before .put3 .ensures)
+
+same-length-4 : tie.Need-same-length-4
+same-length-4 c = search needs
+
+returns-4 : tie.Need-returns-4
+returns-4 c = rw (c .before .before .before .before .before .enum-told4 .given .1) (c .before .before .put4 .ensures)
 
 pub put-doors-spec : {M : Type 1} → statement M
 put-doors-spec =
     tie.close
     (tie.spec
-    slice-aggregate-put-word
-    slice-aggregate-put-word-2
-    number-requires
-    cast-put-word
-    put-word-requires
+    enum-told
+    slice-aggregate-put
+    put-requires
+    enum-told-2
+    slice-aggregate-put-2
+    put-requires-2
+    enum-told-3
+    slice-aggregate-put-3
+    put-requires-3
+    enum-told-4
+    slice-aggregate-put-4
+    put-requires-4
     same-length
-    returns)
+    returns
+    same-length-2
+    returns-2
+    same-length-3
+    returns-3
+    same-length-4
+    returns-4)

@@ -1,4 +1,4 @@
--- `names::put_handle` meets its contract: the text holds the handle's words by its number.
+-- `names::put_handle` meets its contract: the text holds the handle's words each at its place.
 -- Assumes nothing.
 use borrow.Author.Needs.{needs}
 use Rattle.common.specs.Ascii.{joinedByCommas}

@@ -5,11 +5,11 @@ use native.Mathlib.Omega.{arith}
 use mathlib.Core.List.{List}
 use mathlib.Core.Path.{sym, ap, _∙_}
 use lib.ListN.{length-take}
-use borrow.Author.Needs.{needs}
 use Rattle.common.specs.Ascii.{joinedByCommas}
+use Rattle.texts.proofs.Placing.{did-put, then}
 use Rattle.output.specs.Rows.{written}
-use Rattle.texts.proofs.Placing.{then}
 use Rattle.output.proofs.Texts.{refusal-text}
+use borrow.Author.Needs.{needs}
 use Rattle.output.proofs.write_refusal.Statement.{statement}
 use Rattle.output.proofs.write_refusal.Tie as tie
 
@@ -29,10 +29,10 @@ put-requires : tie.Need-put-requires
 put-requires c κs = search needs
 
 array-share-prefix-text : tie.Need-array-share-prefix-text
-array-share-prefix-text c = search needs
+array-share-prefix-text c = omega (arith, did-put (omega arith) (c .before .put .ensures) .place)
 
 slice-aggregate-hand-over : tie.Need-slice-aggregate-hand-over
-slice-aggregate-hand-over c = simp length-take (omega arith)
+slice-aggregate-hand-over c = simp length-take (omega (arith, did-put (omega arith) (c .before .before .put .ensures) .place))
 
 hand-over-requires : tie.Need-hand-over-requires
 hand-over-requires c κs = search needs
@@ -46,10 +46,10 @@ returns c =
     let handed = c .before .before in
     let tail = handed .before .before .before .before in
     let head = tail .before .before .before .before in
-    let start = head .before .before .before in
+    let a = head .before .before .before .args in
     handed .hand-over .ensures
-    ∙ ap (λ (t : List ℕ). written t (start .args .out .now))
-    (then (head .put-head .ensures .1) (tail .put .ensures) .text ∙ sym (refusal-text (start .args .line) (start .args .refusal)))
+    ∙ ap (λ (t : List ℕ). written t (a .out .now))
+    (then (head .put-head .ensures .1) (did-put (omega arith) (tail .put .ensures)) .text ∙ sym (refusal-text (a .line) (a .refusal)))
 
 pub write-refusal-spec : {M : Type 1} → statement M
 write-refusal-spec =
