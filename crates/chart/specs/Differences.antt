@@ -41,6 +41,7 @@ stays kept = kept .doors && kept .gears
 
 -- ---- Facts
 
+-- Which of the four facts are seen.
 abbrev seen : Bool → Bool → Bool → Bool → Seen
 seen opened closed extended retracted = record { opened = opened; closed = closed; extended = extended; retracted = retracted }
 

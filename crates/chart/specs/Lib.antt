@@ -3,5 +3,6 @@ pub mod Csv
 pub mod Differences
 pub mod Page
 pub mod PageCases
+pub mod Parts
 pub mod Room
 pub mod Telling

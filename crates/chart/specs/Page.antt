@@ -5,7 +5,7 @@ use Prim.Native.Nat.{ℕ, _+_, _*_, _/_, _%_}
 use Prim.Native.String.{String}
 use mathlib.Core.Bool.{Bool, cond}
 use mathlib.Core.List.{List, [], _∷_, _++_, flatten}
-use Rattle.common.specs.Ascii.{ascii, lf}
+use Rattle.common.specs.Ascii.{ascii}
 use Rattle.common.specs.Decimal.{decimal}
 use Rattle.common.specs.Lists.{givenFrom}
 use Rattle.sequence.specs.declared.Aim.{Aim}
@@ -17,73 +17,81 @@ use Rattle.chart.specs.declared.differences.Deciding.{Deciding}
 use Rattle.chart.specs.declared.differences.Deciding.the-variants.{Nothing, AllOpen, AllClosed, AllExtended, AllRetracted}
 use Rattle.chart.specs.declared.differences.Kept.{Kept}
 use Rattle.chart.specs.Differences.{places, aimAt, placeOf, keptOf, stays, alone, isNamed, decisive}
+use Rattle.chart.specs.Parts.{
+  line,
+  groupPiece,
+  possiblePiece,
+  neverPiece,
+  movedPiece,
+  spacePiece,
+  rectPiece,
+  numbersPiece,
+  toPiece,
+  endOfTextPiece,
+  whenPiece,
+  alwaysPiece,
+  ifOpenPiece,
+  ifClosedPiece,
+  ifExtendedPiece,
+  ifRetractedPiece,
+  partPiece,
+  keepsPiece,
+  movesPiece,
+  doorsPiece,
+  gearsPiece,
+  staysPiece,
+  otherwisePiece,
+  endOfGroupPiece,
+}
 
 -- ---- A place
 
--- A line of the file.
-abbrev pub line : List ℕ → List ℕ
-line text = text ++ lf ∷ []
-
--- A word, and the end of a line of text.
-abbrev pub endOfLine : List ℕ → List ℕ
-endOfLine word = word ++ line (ascii "</text>")
-
--- Where it stands on the page, in tenths of a millimetre: the gears' columns, the doors' rows, handle up above handle down.
+-- Where it stands on the page, in tenths of a millimetre: the gears' columns.
 abbrev pub left : ℕ → ℕ
 left k = 420 + 610 * (k % 4)
 
+-- The doors' rows, handle up above handle down.
 abbrev pub top : ℕ → ℕ
 top k = 615 + 385 * (k / 4 % 4) + 1780 * (k / 16)
 
 -- Its frame, grey where no reached state is there.
 unfoldable pub frameText : ℕ → Bool → List ℕ
 frameText k possible =
-    ascii "<g class='" ++ cond possible (ascii "place") (ascii "never") ++
-    ascii "' transform='translate(" ++ decimal (left k) ++ ascii " " ++ decimal (top k) ++
-    (line (ascii ")'>") ++ line (ascii "<rect width='590' height='365'/>"))
+    groupPiece ++ cond possible possiblePiece neverPiece ++ movedPiece ++ decimal (left k) ++ spacePiece ++ decimal (top k) ++ rectPiece
 
 -- The numbers of its entries.
 unfoldable pub numbersText : ℕ → List ℕ
-numbersText k =
-    ascii "<text class='numbers' x='570' y='50'>" ++ decimal (16 * k) ++ ascii " to " ++ decimal (16 * k + 15) ++ endOfLine []
+numbersText k = numbersPiece ++ decimal (16 * k) ++ toPiece ++ decimal (16 * k + 15) ++ endOfTextPiece
 
 -- When something comes next.
 abbrev pub whenWord : Deciding → List ℕ
-whenWord Nothing = ascii "always"
-whenWord AllOpen = ascii "if all open"
-whenWord AllClosed = ascii "if all closed"
-whenWord AllExtended = ascii "if all extended"
-whenWord AllRetracted = ascii "if all retracted"
+whenWord Nothing = alwaysPiece
+whenWord AllOpen = ifOpenPiece
+whenWord AllClosed = ifClosedPiece
+whenWord AllExtended = ifExtendedPiece
+whenWord AllRetracted = ifRetractedPiece
 
--- A line of it.
-abbrev pub whenLine : List ℕ → List ℕ
-whenLine word = ascii "<text class='when' x='28' y='56'>" ++ endOfLine word
-
+-- Its line.
 unfoldable pub whenText : Deciding → List ℕ
-whenText fact = whenLine (whenWord fact)
+whenText fact = whenPiece ++ whenWord fact ++ endOfTextPiece
 
 -- The beginning of a line of doors or gears: bold and blue what changes.
 unfoldable pub partBegin : Bool → List ℕ → List ℕ
-partBegin same name =
-    ascii "<text class='" ++ cond same (ascii "keeps") (ascii "moves") ++ ascii "' x='28' y='" ++ name
+partBegin same name = partPiece ++ cond same keepsPiece movesPiece ++ name
 
 -- The doors and the gears that come next.
 unfoldable pub partsText : Kept → Place → List ℕ
 partsText kept to =
-    partBegin (kept .doors) (ascii "116'>doors ") ++ doorsWord (to .doors) ++ line (ascii "</text>") ++
-    partBegin (kept .gears) (ascii "174'>gears ") ++ endOfLine (gearsWord (to .gears))
+    partBegin (kept .doors) doorsPiece ++ doorsWord (to .doors) ++ endOfTextPiece ++
+    partBegin (kept .gears) gearsPiece ++ gearsWord (to .gears) ++ endOfTextPiece
 
 -- What comes next, or that the place stays.
 unfoldable pub nextText : Place → Place → List ℕ
-nextText from to =
-    let kept = keptOf from to in
-    cond (stays kept) (ascii "<text x='28' y='116'>" ++ endOfLine (ascii "stays")) (partsText kept to)
+nextText from to = let kept = keptOf from to in cond (stays kept) staysPiece (partsText kept to)
 
 -- What comes next where the fact that makes a difference is not seen.
 unfoldable pub elseText : Aim → Place → List ℕ
-elseText aim from =
-    line (ascii "<g transform='translate(0 176)'>") ++ whenLine (ascii "else") ++
-    nextText from (moveOf aim from (alone Nothing)) ++ line (ascii "</g>")
+elseText aim from = otherwisePiece ++ nextText from (moveOf aim from (alone Nothing)) ++ endOfGroupPiece
 
 -- A place with its frame and its numbers: what comes next where the fact that makes a difference is seen, and where it is not.
 unfoldable pub placeText : ℕ → List ℕ
@@ -92,7 +100,7 @@ placeText k =
     let from = placeOf k in
     let fact = decisive aim from in
     frameText k (movingHaveOpen from) ++ numbersText k ++ whenText fact ++ nextText from (moveOf aim from (alone fact)) ++
-    cond (isNamed fact) (elseText aim from) [] ++ line (ascii "</g>")
+    cond (isNamed fact) (elseText aim from) [] ++ endOfGroupPiece
 
 -- ---- The page
 

@@ -76,7 +76,7 @@ fn put_asked(text: &mut [u8], at: usize, asked: Asked) -> usize
     let facts = facts_piece(asked.seen);
     let next = texts::put(text, at, b",");
     let handled = names::put_handle(text, next, aim);
-    let numbered = put_field(text, handled, handle_number(aim));
+    let numbered = put_field(text, handled, aim.number() as u64);
     let placed = put_place(text, numbered, place);
     texts::put(text, placed, &facts)
 }
@@ -124,14 +124,4 @@ fn last_piece(possible: bool) -> [u8; 4]
     ensures { λ r. ⌜ r ≡ comma ∷ (factField possible ++ crlf) ⌝ }
 {
     [b',', texts::on_off(possible), b'\r', b'\n']
-}
-
-// Handle up is 0, down is 1.
-fn handle_number(aim: Aim) -> u64
-    ensures { λ r. ⌜ r ≡ handleNumber aim ⌝ }
-{
-    match aim {
-        Aim::ToRetracted => 0,
-        Aim::ToExtended => 1,
-    }
 }

@@ -87,6 +87,16 @@ pub(crate) fn is_named(fact: Deciding) -> bool
     }
 }
 
+// The fact that makes a difference where doors and gears stand so and the handle aims so.
+pub(crate) fn decisive(aim: Aim, from: Place) -> Deciding
+    ensures { λ r. ⌜ r ≡ decisive aim from ⌝ }
+{
+    let retracted = first_of(aim, from, Deciding::AllRetracted, Deciding::Nothing);
+    let extended = first_of(aim, from, Deciding::AllExtended, retracted);
+    let closed = first_of(aim, from, Deciding::AllClosed, extended);
+    first_of(aim, from, Deciding::AllOpen, closed)
+}
+
 // A fact, if it makes a difference there, and else the rest.
 fn first_of(aim: Aim, from: Place, fact: Deciding, rest: Deciding) -> Deciding
     ensures { λ r. ⌜ r ≡ cond (decides aim from fact) fact rest ⌝ }
@@ -98,14 +108,4 @@ fn first_of(aim: Aim, from: Place, fact: Deciding, rest: Deciding) -> Deciding
         return rest;
     }
     fact
-}
-
-// The fact that makes a difference where doors and gears stand so and the handle aims so.
-pub(crate) fn decisive(aim: Aim, from: Place) -> Deciding
-    ensures { λ r. ⌜ r ≡ decisive aim from ⌝ }
-{
-    let retracted = first_of(aim, from, Deciding::AllRetracted, Deciding::Nothing);
-    let extended = first_of(aim, from, Deciding::AllExtended, retracted);
-    let closed = first_of(aim, from, Deciding::AllClosed, extended);
-    first_of(aim, from, Deciding::AllOpen, closed)
 }

@@ -3,3 +3,4 @@
 pub mod csv;
 mod differences;
 pub mod page;
+mod parts;

@@ -3,11 +3,15 @@
 ghost use mathlib.Core.Bool.{cond};
 ghost use mathlib.Core.List.{[]};
 ghost use mathlib.Core.Path.{_≡_};
+ghost use Rattle.names.specs.Words.{entry};
 ghost use Rattle.texts.specs.Puts.{putOf};
 ghost use Rattle.chart.specs.Differences.{isNamed};
 ghost use Rattle.chart.specs.Page.{
+  left,
+  top,
   frameText,
   numbersText,
+  whenWord,
   whenText,
   partBegin,
   nextText,
@@ -15,9 +19,12 @@ ghost use Rattle.chart.specs.Page.{
   placeText,
   pageText,
 };
+ghost use Rattle.chart.specs.Parts.{parts};
 ghost use Rattle.chart.specs.Room.{PutIfRoom};
 use crate::differences;
 use crate::differences::Deciding;
+use crate::parts;
+use crate::parts::put_part;
 use sequence::Aim;
 use sequence::Place;
 use table::Asked;
@@ -85,9 +92,6 @@ const TAIL: [u8; 567] =
 <text class='note' x='120' y='4151'>Small numbers: the entries of the table that runs, 16 at each place, 512 in all. This page is written from it.</text>\n\
 </svg>\n";
 
-// What a line of text ends in.
-const END: [u8; 8] = *b"</text>\n";
-
 // The page has so many bytes.
 const LENGTH: usize = 13935;
 
@@ -136,11 +140,25 @@ fn put_place(text: &mut [u8], at: usize, k: u8) -> usize
         table::moved(from, aim, differences::alone(fact)),
     );
     let done = put_else(text, told, aim, from, fact);
-    texts::put(text, done, b"</g>\n")
+    put_part(text, done, parts::END_GROUP)
 }
 
-// One of two words of five letters.
-fn either(first: bool, one: [u8; 5], other: [u8; 5]) -> [u8; 5]
+// How far across the page place k stands.
+fn left(k: u8) -> u64
+    ensures { λ r. ⌜ r ≡ left k ⌝ }
+{
+    420 + 610 * ((k % 4) as u64)
+}
+
+// How far down.
+fn top(k: u8) -> u64
+    ensures { λ r. ⌜ r ≡ top k ⌝ }
+{
+    615 + 385 * ((k / 4 % 4) as u64) + 1780 * ((k / 16) as u64)
+}
+
+// One of two pieces.
+fn either(first: bool, one: usize, other: usize) -> usize
     ensures { λ r. ⌜ r ≡ cond first one other ⌝ }
 {
     if first {
@@ -153,18 +171,14 @@ fn either(first: bool, one: [u8; 5], other: [u8; 5]) -> [u8; 5]
 fn put_frame(text: &mut [u8], at: usize, k: u8, possible: bool) -> usize
     ensures { λ r. ⌜ PutIfRoom (now (text .entry)) at (frameText k possible) (now (text .exit)) r ⌝ }
 {
-    let class = either(possible, *b"place", *b"never");
-    let opened = texts::put(text, at, b"<g class='");
-    let classed = texts::put(text, opened, &class);
-    let moved = texts::put(text, classed, b"' transform='translate(");
-    let across = texts::put_number(text, moved, 420 + 610 * ((k % 4) as u64));
-    let spaced = texts::put(text, across, b" ");
-    let down = texts::put_number(
-        text,
-        spaced,
-        615 + 385 * ((k / 4 % 4) as u64) + 1780 * ((k / 16) as u64),
-    );
-    texts::put(text, down, b")'>\n<rect width='590' height='365'/>\n")
+    let class = either(possible, parts::PLACE, parts::NEVER);
+    let opened = put_part(text, at, parts::GROUP);
+    let classed = put_part(text, opened, class);
+    let moved = put_part(text, classed, parts::MOVED);
+    let across = texts::put_number(text, moved, left(k));
+    let spaced = put_part(text, across, parts::SPACE);
+    let down = texts::put_number(text, spaced, top(k));
+    put_part(text, down, parts::RECT)
 }
 
 // Puts the numbers of its entries.
@@ -172,55 +186,44 @@ fn put_numbers(text: &mut [u8], at: usize, k: u8) -> usize
     ensures { λ r. ⌜ PutIfRoom (now (text .entry)) at (numbersText k) (now (text .exit)) r ⌝ }
 {
     let n = 16 * (k as u64);
-    let opened = texts::put(text, at, b"<text class='numbers' x='570' y='50'>");
+    let opened = put_part(text, at, parts::NUMBERS);
     let first = texts::put_number(text, opened, n);
-    let to = texts::put(text, first, b" to ");
+    let to = put_part(text, first, parts::TO);
     let last = texts::put_number(text, to, n + 15);
-    texts::put(text, last, &END)
+    put_part(text, last, parts::END)
+}
+
+// The piece that says when something comes next.
+fn when_word(fact: Deciding) -> usize
+    ensures { λ r. ⌜ entry parts r ≡ whenWord fact ⌝ }
+{
+    match fact {
+        Deciding::Nothing => parts::ALWAYS,
+        Deciding::AllOpen => parts::IF_OPEN,
+        Deciding::AllClosed => parts::IF_CLOSED,
+        Deciding::AllExtended => parts::IF_EXTENDED,
+        Deciding::AllRetracted => parts::IF_RETRACTED,
+    }
 }
 
 // Puts when something comes next.
 fn put_when(text: &mut [u8], at: usize, fact: Deciding) -> usize
     ensures { λ r. ⌜ PutIfRoom (now (text .entry)) at (whenText fact) (now (text .exit)) r ⌝ }
 {
-    match fact {
-        Deciding::Nothing => texts::put(
-            text,
-            at,
-            b"<text class='when' x='28' y='56'>always</text>\n",
-        ),
-        Deciding::AllOpen => texts::put(
-            text,
-            at,
-            b"<text class='when' x='28' y='56'>if all open</text>\n",
-        ),
-        Deciding::AllClosed => texts::put(
-            text,
-            at,
-            b"<text class='when' x='28' y='56'>if all closed</text>\n",
-        ),
-        Deciding::AllExtended => texts::put(
-            text,
-            at,
-            b"<text class='when' x='28' y='56'>if all extended</text>\n",
-        ),
-        Deciding::AllRetracted => texts::put(
-            text,
-            at,
-            b"<text class='when' x='28' y='56'>if all retracted</text>\n",
-        ),
-    }
+    let word = when_word(fact);
+    let opened = put_part(text, at, parts::WHEN);
+    let said = put_part(text, opened, word);
+    put_part(text, said, parts::END)
 }
 
 // Puts the beginning of a line of doors or gears, by whether they stay.
-fn put_begin(text: &mut [u8], at: usize, stays: bool, name: &[u8]) -> usize
-    ensures { λ r. ⌜ PutIfRoom (now (text .entry)) at (partBegin stays (now (name .entry))) (now (text .exit)) r ⌝ }
+fn put_begin(text: &mut [u8], at: usize, stays: bool, name: usize) -> usize
+    ensures { λ r. ⌜ PutIfRoom (now (text .entry)) at (partBegin stays (entry parts name)) (now (text .exit)) r ⌝ }
 {
-    let class = either(stays, *b"keeps", *b"moves");
-    let opened = texts::put(text, at, b"<text class='");
-    let classed = texts::put(text, opened, &class);
-    let placed = texts::put(text, classed, b"' x='28' y='");
-    texts::put(text, placed, name)
+    let class = either(stays, parts::KEEPS, parts::MOVES);
+    let opened = put_part(text, at, parts::LINE);
+    let classed = put_part(text, opened, class);
+    put_part(text, classed, name)
 }
 
 // Puts what comes next, or that the place stays.
@@ -229,16 +232,16 @@ fn put_next(text: &mut [u8], at: usize, from: Place, to: Place) -> usize
 {
     let kept = differences::compared(from, to);
     if kept.doors & kept.gears {
-        return texts::put(text, at, b"<text x='28' y='116'>stays</text>\n");
+        return put_part(text, at, parts::STAYS);
     }
     let doors = to.doors;
     let gears = to.gears;
-    let begun = put_begin(text, at, kept.doors, b"116'>doors ");
+    let begun = put_begin(text, at, kept.doors, parts::DOORS);
     let said = names::put_doors(text, begun, doors);
-    let ended = texts::put(text, said, &END);
-    let begun = put_begin(text, ended, kept.gears, b"174'>gears ");
+    let ended = put_part(text, said, parts::END);
+    let begun = put_begin(text, ended, kept.gears, parts::GEARS);
     let said = names::put_gears(text, begun, gears);
-    texts::put(text, said, &END)
+    put_part(text, said, parts::END)
 }
 
 // Puts what comes next where the fact that makes a difference is not seen; where none does, nothing.
@@ -246,14 +249,10 @@ fn put_else(text: &mut [u8], at: usize, aim: Aim, from: Place, fact: Deciding) -
     ensures { λ r. ⌜ PutIfRoom (now (text .entry)) at (cond (isNamed fact) (elseText aim from) []) (now (text .exit)) r ⌝ }
 {
     if differences::is_named(fact) {
-        let begun = texts::put(
-            text,
-            at,
-            b"<g transform='translate(0 176)'>\n<text class='when' x='28' y='56'>else</text>\n",
-        );
+        let begun = put_part(text, at, parts::ELSE);
         let none = differences::alone(Deciding::Nothing);
         let told = put_next(text, begun, from, table::moved(from, aim, none));
-        return texts::put(text, told, b"</g>\n");
+        return put_part(text, told, parts::END_GROUP);
     }
     at
 }

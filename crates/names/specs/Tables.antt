@@ -18,4 +18,3 @@ pub record Fits (text starts : List ℕ) (k : ℕ) : Type 0 where
   pub some : 1 ≤ length starts
   pub rises : k + 1 < length starts → getD starts k 0 < getD starts (k + 1) 0
   pub ends : k + 1 < length starts → getD starts (k + 1) 0 ≤ length text + 1
-

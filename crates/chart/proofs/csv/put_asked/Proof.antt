@@ -13,10 +13,10 @@ returns c =
     let number = placed .before .before .before .before in
     let handle = number .before .before .before .before .before in
     let comma = handle .before .before .before .before in
-    let handle-number = rw (number .before .handle-number .ensures) at (number .put-field .ensures) in
+    let handle-number = rw (number .before .number .ensures) at (number .put-field .ensures) in
     let seen = rw (comma .before .before .before .facts-piece .ensures) at (put (facts .put2 .ensures)) in
     same (asked-text (comma .before .before .before .before .before .before .args .asked))
     (and (put (comma .put .ensures)) (and (and (and (put (handle .put-handle .ensures)) handle-number) (placed .put-place .ensures)) seen))
 
 pub put-asked-spec : {M : Type 1} → statement M
-put-asked-spec = tie.close (tie.spec (λ c κs. search needs) (λ c. search needs) (λ c κs. search needs) (λ c κs. search needs) (λ c κs. search needs) (λ c κs. search needs) (λ c κs. search needs) (λ c. search needs) (λ c κs. search needs) (λ c. search needs) returns)
+put-asked-spec = tie.close (tie.spec (λ c κs. search needs) (λ c. search needs) (λ c κs. search needs) (λ c κs. search needs) (λ c κs. search needs) (λ c. search needs) (λ c κs. search needs) (λ c κs. search needs) (λ c. search needs) (λ c κs. search needs) (λ c. search needs) returns)

@@ -1,0 +1,117 @@
+// The pieces of the page that are the same at every place (specs/Parts.antt): one text, and the places where they begin.
+ghost use Rattle.names.specs.Words.{entry};
+ghost use Rattle.chart.specs.Parts.{parts};
+ghost use Rattle.chart.specs.Room.{PutIfRoom};
+
+// The places of the pieces in their list.
+pub(crate) const GROUP: usize = 0;
+
+pub(crate) const PLACE: usize = 1;
+
+pub(crate) const NEVER: usize = 2;
+
+pub(crate) const MOVED: usize = 3;
+
+pub(crate) const SPACE: usize = 4;
+
+pub(crate) const RECT: usize = 5;
+
+pub(crate) const NUMBERS: usize = 6;
+
+pub(crate) const TO: usize = 7;
+
+pub(crate) const END: usize = 8;
+
+pub(crate) const WHEN: usize = 9;
+
+pub(crate) const ALWAYS: usize = 10;
+
+pub(crate) const IF_OPEN: usize = 11;
+
+pub(crate) const IF_CLOSED: usize = 12;
+
+pub(crate) const IF_EXTENDED: usize = 13;
+
+pub(crate) const IF_RETRACTED: usize = 14;
+
+pub(crate) const LINE: usize = 15;
+
+pub(crate) const KEEPS: usize = 16;
+
+pub(crate) const MOVES: usize = 17;
+
+pub(crate) const DOORS: usize = 18;
+
+pub(crate) const GEARS: usize = 19;
+
+pub(crate) const STAYS: usize = 20;
+
+pub(crate) const ELSE: usize = 21;
+
+pub(crate) const END_GROUP: usize = 22;
+
+// There are so many.
+const COUNT: usize = 23;
+
+// All pieces, one after the other. (The blanks that two of them begin with stand at the end of a line.)
+const PARTS: [u8; 410] = *b"<g class='\
+place\
+never\
+' transform='translate( \
+)'>\n<rect width='590' height='365'/>\n\
+<text class='numbers' x='570' y='50'> to \
+</text>\n\
+<text class='when' x='28' y='56'>\
+always\
+if all open\
+if all closed\
+if all extended\
+if all retracted\
+<text class='\
+keeps\
+moves\
+' x='28' y='116'>doors \
+' x='28' y='174'>gears \
+<text x='28' y='116'>stays</text>\n\
+<g transform='translate(0 176)'>\n<text class='when' x='28' y='56'>else</text>\n\
+</g>\n";
+
+// Where each begins, and where the last one ends.
+const STARTS: [usize; 24] = [
+    0,
+    10,
+    15,
+    20,
+    43,
+    44,
+    81,
+    118,
+    122,
+    130,
+    163,
+    169,
+    180,
+    193,
+    208,
+    224,
+    237,
+    242,
+    247,
+    270,
+    293,
+    327,
+    405,
+    410,
+];
+
+// Puts piece k; past the last there is none.
+pub(crate) fn put_part(text: &mut [u8], at: usize, k: usize) -> usize
+    ensures { λ r. ⌜ PutIfRoom (now (text .entry)) at (entry parts k) (now (text .exit)) r ⌝ }
+{
+    if COUNT <= k {
+        return at;
+    }
+    let start = STARTS[k];
+    let end = STARTS[k + 1];
+    texts::put(text, at, &PARTS[start..end])
+}
