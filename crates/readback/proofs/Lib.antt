@@ -3,7 +3,6 @@ pub mod Fields
 pub mod FixedTexts
 pub mod Lines
 pub mod Once
-pub mod Opened
 pub mod Parts
 pub mod Places
 pub mod Turns

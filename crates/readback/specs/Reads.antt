@@ -1,8 +1,9 @@
 -- Request K2: a dump taken back. What all its bytes come to, and the same by parts with the buffer that is lent.
 -- Assumes nothing.
-use Prim.Native.Nat.{ℕ, suc, _+_}
+use Prim.Native.Nat.{ℕ, suc}
 use mathlib.Core.Bool.{Bool, true, false, cond, _&&_}
 use mathlib.Core.List.{List, [], _∷_, map}
+use mathlib.Core.Path.{_≡_}
 use lib.Dec.{eqb}
 use lib.ListN.{length}
 use Rattle.common.specs.Answers.{Answer, gives, refuses}
@@ -13,7 +14,7 @@ use Rattle.readback.specs.declared.Place.{Place}
 use Rattle.readback.specs.declared.Place.the-variants.{Opening, FirstValue, FirstCode, FirstEnd, Closing, Line, Time, Code, End, Bad}
 use Rattle.readback.specs.declared.Reader.{Reader}
 use Rattle.readback.specs.declared.Took.{Took}
-use Rattle.readback.specs.Bytes.{newReader, moved, mayEnd, byteOf}
+use Rattle.readback.specs.Bytes.{newReader, mayEnd, byteOf}
 
 -- ---- Where a moment is over
 
@@ -29,6 +30,23 @@ isLine (Time n) = false
 isLine (Code value) = false
 isLine End = false
 isLine Bad = false
+
+-- Within what every dump begins with.
+abbrev pub isOpening : Place → Bool
+isOpening (Opening at) = true
+isOpening FirstValue = false
+isOpening FirstCode = false
+isOpening FirstEnd = false
+isOpening (Closing at) = false
+isOpening Line = false
+isOpening (Time n) = false
+isOpening (Code value) = false
+isOpening End = false
+isOpening Bad = false
+
+-- There its text has to be at hand.
+abbrev pub AtHand : Reader → List ℕ → Type 0
+AtHand r text = isOpening (r .place) ≡ true → text ≡ openingText
 
 -- Refused for good.
 abbrev pub isBad : Place → Bool
@@ -96,17 +114,6 @@ takenFrom start r used (b ∷ bytes) values =
     cond (isBad (byteOf r b .place)) (refused 9 start, values)
     (cond (begins r b) (givesMoment (r .time) (suc used) (byteOf r b), bits (r .values))
     (takenFrom start (byteOf r b) (suc used) bytes values))
-
--- How many bytes of a part go on with a text.
-unfoldable pub sameFor : List ℕ → List ℕ → ℕ
-sameFor [] text = 0
-sameFor (b ∷ part) [] = 0
-sameFor (b ∷ part) (t ∷ text) = cond (eqb b t) (suc (sameFor part text)) 0
-
--- The reader behind so many more bytes of what every dump begins with.
-unfoldable pub opened : Reader → ℕ → ℕ → Reader
-opened r at same =
-    cond (eqb same 0) r (moved r (cond (eqb (at + same) (length openingText)) FirstValue (Opening (at + same))))
 
 -- 8: the values' buffer is not 26 bytes. A refusal leaves the buffer as it was.
 unfoldable pub takeOf : Reader → List ℕ → List ℕ → Took × List ℕ

@@ -3,10 +3,10 @@
 // of a whole dump come to and what each call gives. proofs/Written.antt says that what the writer writes is read back, and
 // proofs/Exact.antt that nothing else is. The module `sheets` writes the values as CSV.
 ghost use mathlib.Core.Path.{_≡_};
-ghost use Prim.Native.Nat.{_-_, _≤_, _<_};
-ghost use lib.ListN.{length, drop};
+ghost use Prim.Native.Nat.{_<_};
+ghost use lib.ListN.{length};
 ghost use Rattle.dump.specs.Wires.{wires};
-ghost use Rattle.dump.specs.Dumps.{openingText, openingLength};
+ghost use Rattle.dump.specs.Dumps.{openingText};
 ghost use Rattle.readback.specs.Bytes.{
   newReader,
   moved,
@@ -27,6 +27,8 @@ ghost use Rattle.readback.specs.Bytes.{
 };
 ghost use Rattle.readback.specs.Reads.{
   isLine,
+  isOpening,
+  AtHand,
   isBad,
   complete,
   begins,
@@ -35,8 +37,6 @@ ghost use Rattle.readback.specs.Reads.{
   goesOn,
   givesMoment,
   takenFrom,
-  sameFor,
-  opened,
   takeOf,
   finishOf,
 };
@@ -109,11 +109,11 @@ impl Reader {
             return self.refused(8);
         }
         let place = self.place;
-        if let Place::Opening(at) = place {
-            let same = opening_in(at, part);
-            return self.opened(at, same).take_all(self, same, part, values);
+        if is_opening(place) {
+            let text = dump::opening();
+            return self.take_all(&text, part, values);
         }
-        self.take_all(self, 0, part, values)
+        self.take_all(part, part, values)
     }
 
     // The end of the dump: its last moment.
@@ -131,37 +131,20 @@ impl Reader {
         self.refused(9)
     }
 
-    // Behind so many bytes of what every dump begins with.
-    fn opened(self, at: usize, same: usize) -> Self
-        requires { ⌜ same ≤ openingLength - at ⌝ }
-        ensures { λ r. ⌜ r ≡ opened self at same ⌝ }
-    {
-        if same == 0 {
-            return self;
-        }
-        let to = at + same;
-        self.at_text(
-            true,
-            to == OPENING_LENGTH,
-            Place::Opening(to),
-            Place::FirstValue,
-        )
-    }
-
-    // Takes in the part from a place on, up to the byte that begins the next moment, or to its end; a refusal gives the reader back that
-    // it started with.
-    fn take_all(self, start: Reader, from: usize, part: &[u8], values: &mut [u8]) -> Took
-        requires { ⌜ (from ≤ length (now part)) × (length (now values) ≡ wires) ⌝ }
-        ensures { λ r. ⌜ (r, now (values .exit)) ≡ takenFrom start self from (drop from (now (part .entry))) (now (values .entry)) ⌝ }
+    // Takes in the part up to the byte that begins the next moment, or to its end. The text is what every dump begins with, made once for
+    // all bytes of it; behind it any text will do.
+    fn take_all(self, text: &[u8], part: &[u8], values: &mut [u8]) -> Took
+        requires { ⌜ AtHand self (now text) × (length (now values) ≡ wires) ⌝ }
+        ensures { λ r. ⌜ (r, now (values .exit)) ≡ takenFrom self self 0 (now (part .entry)) (now (values .entry)) ⌝ }
     {
         let mut reader = self;
-        let mut i = from;
+        let mut i = 0;
         while i < part.len() {
             let b = part[i];
-            let after = reader.byte(b);
+            let after = reader.byte(text, b);
             let place = after.place;
             if is_bad(place) {
-                return start.refused(9);
+                return self.refused(9);
             }
             if reader.begins(b) {
                 let shown = reader.values;
@@ -175,12 +158,13 @@ impl Reader {
     }
 
     // A byte.
-    fn byte(self, b: u8) -> Self
+    fn byte(self, text: &[u8], b: u8) -> Self
+        requires { ⌜ AtHand self (now text) ⌝ }
         ensures { λ r. ⌜ r ≡ byteOf self b ⌝ }
     {
         let place = self.place;
         match place {
-            Place::Opening(at) => self.at_opening(at, b),
+            Place::Opening(at) => self.at_opening(text, at, b),
             Place::FirstValue => self.at_first_value(b),
             Place::FirstCode => self.at_first_code(b),
             Place::FirstEnd => self.at_first_end(b),
@@ -194,13 +178,13 @@ impl Reader {
     }
 
     // What every dump begins with.
-    fn at_opening(self, at: usize, b: u8) -> Self
+    fn at_opening(self, text: &[u8], at: usize, b: u8) -> Self
+        requires { ⌜ now text ≡ openingText ⌝ }
         ensures { λ r. ⌜ r ≡ atOpening self at b ⌝ }
     {
         if OPENING_LENGTH <= at {
             return self.bad();
         }
-        let text = dump::opening();
         let same = b == text[at];
         let last = at + 1 == OPENING_LENGTH;
         self.at_text(same, last, Place::Opening(at + 1), Place::FirstValue)
@@ -434,26 +418,6 @@ impl Reader {
     }
 }
 
-// How many bytes of the part go on with what every dump begins with, from a place of that on: so the text is made once for all of them.
-fn opening_in(at: usize, part: &[u8]) -> usize
-    ensures { λ r. ⌜ r ≡ sameFor (now (part .entry)) (drop at openingText) ⌝ }
-{
-    let text = dump::opening();
-    let mut to = at;
-    let mut i = 0;
-    while i < part.len() {
-        if OPENING_LENGTH <= to {
-            return i;
-        }
-        if part[i] != text[to] {
-            return i;
-        }
-        to += 1;
-        i += 1;
-    }
-    i
-}
-
 // A value, 0 or 1.
 fn is_value(b: u8) -> bool
     ensures { λ r. ⌜ r ≡ isValue b ⌝ }
@@ -472,6 +436,24 @@ fn is_line(place: Place) -> bool
         Place::FirstEnd => false,
         Place::Closing(_) => false,
         Place::Line => true,
+        Place::Time(_) => false,
+        Place::Code(_) => false,
+        Place::End => false,
+        Place::Bad => false,
+    }
+}
+
+// Within what every dump begins with.
+fn is_opening(place: Place) -> bool
+    ensures { λ r. ⌜ r ≡ isOpening place ⌝ }
+{
+    match place {
+        Place::Opening(_) => true,
+        Place::FirstValue => false,
+        Place::FirstCode => false,
+        Place::FirstEnd => false,
+        Place::Closing(_) => false,
+        Place::Line => false,
         Place::Time(_) => false,
         Place::Code(_) => false,
         Place::End => false,

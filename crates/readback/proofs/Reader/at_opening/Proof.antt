@@ -1,9 +1,10 @@
 -- `readback::Reader::at_opening` meets its contract: past the text, and within it.
 -- Assumes nothing.
 use Prim.Native.Nat.{ℕ}
+use native.Mathlib.Omega.{arith}
 use mathlib.Core.List.{List}
 use mathlib.Core.Path.{ap, _∙_}
-use lib.ListN.{getD}
+use lib.ListN.{length, getD}
 use borrow.Author.Needs.{needs}
 use Rattle.dump.specs.Dumps.{openingText, openingLength}
 use Rattle.dump.proofs.Lines.{opening-length}
@@ -19,20 +20,17 @@ bad-requires c κs = search needs
 returns : tie.Need-returns
 unfolding atOpening
 returns c =
-    let a = c .before .before .args in
+    let a = c .before .before .before .args in
     c .bad .ensures ∙ past-text openingText Opening FirstValue (a .self) (a .at) (a .b) openingLength opening-length (c .before .if1 .taken)
 
-opening-requires : tie.Need-opening-requires
-opening-requires c κs = search needs
-
-array-read-same : tie.Need-array-read-same
-array-read-same c = search needs
+shared-slice-read-same : tie.Need-shared-slice-read-same
+shared-slice-read-same c = let s = c .before .before .before in omega (arith, ap length (s .pre), opening-length)
 
 add-last : tie.Need-add-last
 add-last c = search needs
 
-add-t12 : tie.Need-add-t12
-add-t12 c = search needs
+add-t10 : tie.Need-add-t10
+add-t10 c = search needs
 
 at-text-requires : tie.Need-at-text-requires
 at-text-requires c κs = search needs
@@ -40,12 +38,12 @@ at-text-requires c κs = search needs
 returns-2 : tie.Need-returns-2
 unfolding atOpening
 returns-2 c =
-    let made = c .before in
-    let a = made .before .before .args in
+    let s = c .before .before .before .before in
+    let a = s .args in
     c .at-text .ensures
-    ∙ within-text openingText Opening FirstValue (a .self) (a .at) (a .b) openingLength opening-length _ (ap (λ (l : List ℕ). getD l (a .at) 0) (made .opening .ensures)) (made .before .if1 .left)
+    ∙ within-text openingText Opening FirstValue (a .self) (a .at) (a .b) openingLength opening-length _ (ap (λ (l : List ℕ). getD l (a .at) 0) (s .pre)) (c .before .before .if1 .left)
 
 pub at-opening-spec : {M : Type 1} → statement M
 at-opening-spec =
     tie.close
-    (tie.spec bad-requires returns opening-requires array-read-same add-last add-t12 at-text-requires returns-2)
+    (tie.spec bad-requires returns shared-slice-read-same add-last add-t10 at-text-requires returns-2)

@@ -1,7 +1,8 @@
 -- `readback::Reader::byte` meets its contract: by the place.
 -- Assumes nothing.
-use mathlib.Core.Path.{sym, _∙_}
+use mathlib.Core.Path.{sym, ap, _∙_}
 use borrow.Author.Needs.{needs}
+use Rattle.readback.specs.Reads.{isOpening}
 use Rattle.readback.proofs.Places.{byte-at}
 use Rattle.readback.proofs.Reader.byte.Statement.{statement}
 use Rattle.readback.proofs.Reader.byte.Tie as tie
@@ -10,7 +11,7 @@ enum-known-place : tie.Need-enum-known-place
 enum-known-place c = search needs
 
 at-opening-requires : tie.Need-at-opening-requires
-at-opening-requires c κs = search needs
+at-opening-requires c κs = c .before .before .before .before .pre (ap isOpening (c .before .place .given .1))
 
 enum-told : tie.Need-enum-told
 enum-told c = search needs

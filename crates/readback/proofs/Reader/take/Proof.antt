@@ -1,16 +1,12 @@
 -- `readback::Reader::take` meets its contract: a buffer that is not 26 bytes; within what every dump begins with, and behind it.
 -- Assumes nothing.
-use native.Mathlib.Omega.{arith}
-use mathlib.Core.Path.{sym, ap, _∙_}
-use lib.ListN.{length, drop, length-drop}
+use mathlib.Core.Bool.{false≢true}
+use mathlib.Core.Path.{sym, _∙_}
+use lib.ListN.{length}
 use borrow.Author.Tests.{eq-eqb, ne-eqb}
 use borrow.Author.Needs.{needs}
 use Rattle.dump.specs.Wires.{wires}
-use Rattle.dump.specs.Dumps.{openingText}
-use Rattle.dump.proofs.Lines.{opening-length}
-use Rattle.readback.specs.declared.Reader.{Reader}
-use Rattle.readback.specs.Reads.{takenFrom, takeOf}
-use Rattle.readback.proofs.Opened.{same-in-part, same-in-text, over-part}
+use Rattle.readback.specs.Reads.{takeOf}
 use Rattle.readback.proofs.Reader.take.Statement.{statement}
 use Rattle.readback.proofs.Reader.take.Tie as tie
 
@@ -21,24 +17,17 @@ returns : tie.Need-returns
 unfolding takeOf
 returns c = simp (c .refused .ensures, ne-eqb _ wires (c .before .if1 .taken))
 
-enum-known-place : tie.Need-enum-known-place
-enum-known-place c = search needs
+is-opening-requires : tie.Need-is-opening-requires
+is-opening-requires c κs = search needs
 
-opening-in-requires : tie.Need-opening-in-requires
-opening-in-requires c κs = search needs
+opening-requires : tie.Need-opening-requires
+opening-requires c κs = search needs
 
-opened-requires : tie.Need-opened-requires
-opened-requires c κs =
-    let part = c .before .before .before .before .before .before .before .args .part .now in
-    let at = c .before .before .place .given .0 .0 in
-    omega (arith, c .opening-in .ensures, same-in-text part (drop at openingText), length-drop at openingText, opening-length)
+slice-aggregate-take-all : tie.Need-slice-aggregate-take-all
+slice-aggregate-take-all c = search needs
 
 take-all-requires : tie.Need-take-all-requires
-take-all-requires c κs =
-    let i = c .before .before in
-    let part = i .before .before .before .before .before .before .before .args .part .now in
-    let at = i .before .before .place .given .0 .0 in
-    (omega (arith, i .opening-in .ensures, same-in-part part (drop at openingText)), search needs)
+take-all-requires c κs = search needs
 
 same-length : tie.Need-same-length
 same-length c = search needs
@@ -47,17 +36,10 @@ returns-2 : tie.Need-returns-2
 unfolding takeOf
 returns-2 c =
     let t = c .before .before in
-    let o = t .before .before in
-    let i = o .before in
-    let place = i .before .before .place .given in
-    let a = i .before .before .before .before .before .before .before .args in
-    rw (eq-eqb (length (a .values .now)) wires (i .before .before .before .before .if1 .left))
-    (t .take-all .ensures
-    ∙ ap (λ (r : Reader). takenFrom (a .self) r (i .opening-in .result) (drop (i .opening-in .result) (a .part .now)) (a .values .now)) (o .opened .ensures)
-    ∙ sym (over-part (a .self) (a .self) (a .values .now) (a .part .now) (place .0 .0) (i .opening-in .result) (place .1) (i .opening-in .ensures)))
+    rw (eq-eqb (length (t .before .before .before .before .before .before .before .before .before .args .values .now)) wires (t .before .before .before .before .before .before .if1 .left)) (t .take-all .ensures)
 
 take-all-requires-2 : tie.Need-take-all-requires-2
-take-all-requires-2 c κs = search needs
+take-all-requires-2 c κs = (λ e. absurd (false≢true (sym (c .before .if2 .left) ∙ c .before .before .is-opening .ensures ∙ e)), search needs)
 
 same-length-2 : tie.Need-same-length-2
 same-length-2 c = search needs
@@ -66,7 +48,7 @@ returns-3 : tie.Need-returns-3
 unfolding takeOf
 returns-3 c =
     let t = c .before .before in
-    rw (eq-eqb (length (t .before .before .before .before .before .before .args .values .now)) wires (t .before .before .before .if1 .left)) (t .take-all2 .ensures)
+    rw (eq-eqb (length (t .before .before .before .before .before .before .before .args .values .now)) wires (t .before .before .before .before .if1 .left)) (t .take-all2 .ensures)
 
 pub take-spec : {M : Type 1} → statement M
 take-spec =
@@ -74,9 +56,9 @@ take-spec =
     (tie.spec
     refused-requires
     returns
-    enum-known-place
-    opening-in-requires
-    opened-requires
+    is-opening-requires
+    opening-requires
+    slice-aggregate-take-all
     take-all-requires
     same-length
     returns-2

@@ -1,4 +1,4 @@
--- `readback::Reader::take_all` meets its contract. The loop's invariant: the rule gives from the start on what it gives from here on.
+-- `readback::Reader::take_all` meets its contract. The loop's invariant: the rule gives for the whole part what it gives from here on.
 -- Assumes nothing.
 use Prim.Native.Nat.{ℕ, _+_, _-_, _≤_}
 use native.Mathlib.Omega.{arith}
@@ -9,17 +9,21 @@ use borrow.Author.Needs.{needs}
 use Rattle.readback.specs.declared.Reader.{Reader}
 use Rattle.readback.specs.declared.Took.{Took}
 use Rattle.readback.specs.Bytes.{byteOf}
-use Rattle.readback.specs.Reads.{isBad, givesMoment, takenFrom}
+use Rattle.readback.specs.Reads.{AtHand, isBad, givesMoment, takenFrom}
+use Rattle.readback.proofs.Places.{was-opening}
 use Rattle.readback.proofs.Turns.{used-up, turned-bad, turned-moment, turned}
 use Rattle.readback.proofs.Reader.take_all.Statement.{statement}
 use Rattle.readback.proofs.Reader.take_all.Tie as tie
 
 abbrev Inv-loop : tie.InvT-loop
-Inv-loop start from part values₀ reader₀ i₀ values reader i =
-    (i ≤ length part) × (values ≡ values₀) × (takenFrom start reader₀ from (drop from part) values₀ ≡ takenFrom start reader i (drop i part) values₀)
+Inv-loop self text part values₀ reader₀ i₀ values reader i =
+    (i ≤ length part)
+    × (values ≡ values₀)
+    × (takenFrom self self 0 part values₀ ≡ takenFrom self reader i (drop i part) values₀)
+    × AtHand reader text
 
 abbrev μ-loop : tie.MeasureT-loop
-μ-loop start from part values₀ reader₀ i₀ values reader i = length part - i
+μ-loop self text part values₀ reader₀ i₀ values reader i = length part - i
 
 loop-holds : tie.Need-loop-holds Inv-loop μ-loop
 loop-holds c = search needs
@@ -36,7 +40,7 @@ is-bad-requires c κs = search needs
 -- What the test says of the byte.
 judged : (c : tie.After-is-bad Inv-loop μ-loop)
     → isBad (byteOf (c .before .before .before .before .loop .reader)
-    (getD (c .before .before .before .before .before .before .before .args .part .now) (c .before .before .before .before .loop .i) 0) .place)
+    (getD (c .before .before .before .before .before .before .before .before .args .part .now) (c .before .before .before .before .loop .i) 0) .place)
     ≡ c .is-bad .result
 judged c = ap (λ (r : Reader). isBad (r .place)) (sym (c .before .byte .ensures)) ∙ sym (c .is-bad .ensures)
 
@@ -50,9 +54,9 @@ returns : tie.Need-returns Inv-loop μ-loop
 returns c =
     let test = c .before in
     let l = test .before .before .before .before .before .loop in
-    let a = test .before .before .before .before .before .before .before .before .args in
+    let a = test .before .before .before .before .before .before .before .before .before .args in
     ap₂ (λ (t : Took) (v : List ℕ). (t, v)) (c .refused .ensures) (l .inv .1)
-    ∙ sym (l .inv .2 ∙ turned-bad (a .start) (l .reader) (l .i) (a .part .now) (a .values .now) (omega arith) (judged (test .before) ∙ test .if1 .taken))
+    ∙ sym (l .inv .2 ∙ turned-bad (a .self) (l .reader) (l .i) (a .part .now) (a .values .now) (omega arith) (judged (test .before) ∙ test .if1 .taken))
 
 begins-requires : tie.Need-begins-requires Inv-loop μ-loop
 begins-requires c κs = search needs
@@ -61,7 +65,7 @@ show-requires : tie.Need-show-requires Inv-loop μ-loop
 show-requires c κs =
     let test = c .before .before .before .before in
     let l = test .before .before .before .before .before .loop in
-    let s = test .before .before .before .before .before .before .before .before in
+    let s = test .before .before .before .before .before .before .before .before .before in
     ap length (l .inv .1) ∙ s .pre .1
 
 add-gives : tie.Need-add-gives Inv-loop μ-loop
@@ -79,9 +83,9 @@ returns-2 c =
     let next = shown .before .before .before in
     let test = next .before .before in
     let l = test .before .before .before .before .before .loop in
-    let a = test .before .before .before .before .before .before .before .before .args in
+    let a = test .before .before .before .before .before .before .before .before .before .args in
     ap₂ (λ (t : Took) (v : List ℕ). (t, v)) (c .gives .ensures ∙ ap (givesMoment (l .reader .time) (l .i + 1)) (test .before .before .byte .ensures)) (shown .show .ensures)
-    ∙ sym (l .inv .2 ∙ turned-moment (a .start) (l .reader) (l .i) (a .part .now) (a .values .now) (omega arith) (judged (test .before) ∙ test .if1 .left) (sym (next .before .begins .ensures) ∙ next .if2 .taken))
+    ∙ sym (l .inv .2 ∙ turned-moment (a .self) (l .reader) (l .i) (a .part .now) (a .values .now) (omega arith) (judged (test .before) ∙ test .if1 .left) (sym (next .before .begins .ensures) ∙ next .if2 .taken))
 
 add-i : tie.Need-add-i Inv-loop μ-loop
 add-i c = search needs
@@ -93,12 +97,13 @@ loop-again : tie.Need-loop-again Inv-loop μ-loop
 loop-again c =
     let test = c .before .before in
     let l = test .before .before .before .before .before .loop in
-    let a = test .before .before .before .before .before .before .before .before .args in (
+    let a = test .before .before .before .before .before .before .before .before .before .args in (
       omega arith,
       l .inv .1,
       l .inv .2
-          ∙ turned (a .start) (l .reader) (l .i) (a .part .now) (a .values .now) (omega arith) (judged (test .before) ∙ test .if1 .left) (sym (c .before .begins .ensures) ∙ c .if2 .left)
-          ∙ ap (λ (r : Reader). takenFrom (a .start) r (l .i + 1) (drop (l .i + 1) (a .part .now)) (a .values .now)) (sym (test .before .before .byte .ensures)),
+          ∙ turned (a .self) (l .reader) (l .i) (a .part .now) (a .values .now) (omega arith) (judged (test .before) ∙ test .if1 .left) (sym (c .before .begins .ensures) ∙ c .if2 .left)
+          ∙ ap (λ (r : Reader). takenFrom (a .self) r (l .i + 1) (drop (l .i + 1) (a .part .now)) (a .values .now)) (sym (test .before .before .byte .ensures)),
+      λ e. l .inv .3 (was-opening (l .reader) _ (rw (test .before .before .byte .ensures) at e)),
     )
 
 goes-on-requires : tie.Need-goes-on-requires Inv-loop μ-loop
@@ -110,9 +115,9 @@ same-length-3 c = search needs
 returns-3 : tie.Need-returns-3 Inv-loop μ-loop
 returns-3 c =
     let l = c .before .before .loop in
-    let a = c .before .before .before .before .before .args in
+    let a = c .before .before .before .before .before .before .args in
     ap₂ (λ (t : Took) (v : List ℕ). (t, v)) (c .goes-on .ensures) (l .inv .1)
-    ∙ sym (l .inv .2 ∙ used-up (a .start) (l .reader) (l .i) (a .part .now) (a .values .now) (omega arith))
+    ∙ sym (l .inv .2 ∙ used-up (a .self) (l .reader) (l .i) (a .part .now) (a .values .now) (omega arith))
 
 pub take-all-spec : {M : Type 1} → statement M
 take-all-spec =
