@@ -1,10 +1,9 @@
-pub mod InAll
 pub mod Law
 pub mod Lengths
 pub mod Once
 pub mod ReadBack
-pub mod Room
 pub mod Steps
+pub mod Taking
 pub mod Telling
 pub mod Turns
 pub mod Whole

@@ -29,9 +29,9 @@ phase-once κs a x y s t p q = p ∙ sym q
 -- Both lent buffers, as `take` leaves them: the line buffer and the output buffer.
 pub take-once : OneAnswerAnd 3 take-kinds.ps take-kinds.r take-reads.Post (List ℕ × List ℕ)
     (λ κs s. (now (s .1 .1 .0), now (s .1 .1 .1 .0)))
-take-once κs a x y s t p q = all-three (p ∙ sym q)
+take-once κs a x y s t p q = all-three (p .0 ∙ sym (q .0))
 
 -- And as `finish` leaves them.
 pub finish-once : OneAnswerAnd 2 finish-kinds.ps finish-kinds.r finish-reads.Post (List ℕ × List ℕ)
     (λ κs s. (now (s .1 .0), now (s .1 .1 .0)))
-finish-once κs a x y s t p q = all-three (p ∙ sym q)
+finish-once κs a x y s t p q = all-three (p .0 ∙ sym (q .0))

@@ -28,6 +28,7 @@ use Rattle.reading.specs.declared.Phase.{Phase}
 use Rattle.reading.specs.declared.Phase.the-variants.{Header, Rows, Ended}
 use Rattle.reading.specs.declared.Reading.{Reading}
 use Rattle.reading.specs.declared.Heard.{Heard}
+use Rattle.reading.specs.Runs.{toldOf}
 use Rattle.reading.specs.Rows.{nextDue, lineOf, untold, endsAt, answerTo, shownRow, noSample, traceRow, rowOf}
 use Rattle.reading.proofs.FirstRow.{by-first-row}
 use Rattle.dump.specs.declared.Dump.{Dump}
@@ -63,7 +64,7 @@ row-read due state row = read-as due state row (readRow row due noSample .0) (re
 
 -- Nothing is written of it, and no moment is added.
 pub record Quiet (dump : Dump) (before : Reading) (heard : Heard) : Type 0 where
-  pub told : given dump (before .state) heard ≡ (dump, [])
+  pub told : toldOf given dump before heard ≡ (dump, [])
   pub none : adds (dump .time) before heard ≡ []
 
 pub untold-quiet : (dump : Dump) (before reading : Reading) → Quiet dump before (untold reading)
@@ -98,7 +99,7 @@ pub record Moved (dump : Dump) (before : Reading) (heard : Heard) : Type 0 where
   pub soon : moment .time ≤ dump .time + limit
   pub fits : moment .time < 2 ^ 64
   pub wide : length (moment .values) ≡ wires
-  pub told : given dump (before .state) heard
+  pub told : toldOf given dump before heard
       ≡ (record { time = moment .time; values = moment .values }, momentText (dump .values) moment)
   pub one : adds (dump .time) before heard ≡ moment ∷ []
 
@@ -202,7 +203,7 @@ turn reading dump row r = turn-in (reading .phase) (reading .state) dump row r
 pub record Started (dump : Dump) (before : Reading) (heard : Heard) : Type 0 where
   pub values : List Bool
   pub wide : length values ≡ wires
-  pub told : given dump (before .state) heard ≡ (startsWith values, headText values)
+  pub told : toldOf given dump before heard ≡ (startsWith values, headText values)
   pub one : adds (dump .time) before heard ≡ record { time = 0; values = values } ∷ []
   pub running : Running (heard .reading .phase) 0
 

@@ -11,7 +11,10 @@ use Rattle.reading.specs.declared.Phase.{Phase}
 use Rattle.reading.specs.declared.Phase.the-variants.{Header, Rows, Ended}
 use Rattle.reading.specs.declared.Reading.{Reading}
 use Rattle.reading.specs.Rows.{endsAt, rowOf, endOf}
+use Rattle.reading.specs.declared.Came.the-variants.{Nothing}
+use Rattle.reading.specs.Runs.{toldOf, Outcome, inRows}
 use Rattle.reading.specs.Ends.{Silent}
+use Rattle.reading.proofs.ByParts as by
 use Rattle.reading.proofs.Ends.{after-refusal}
 use Rattle.dump.specs.declared.Dump.{Dump}
 use Rattle.dump.specs.Dumps.{Moment, RisesFrom, Rising, headText, momentText, laterText, dumpOf}
@@ -23,13 +26,18 @@ use Rattle.dumping.proofs.Turns.Turn.{stays, moves}
 use Rattle.dumping.proofs.Turns.FirstTurn.{ends, starts}
 use Rattle.dumping.proofs.Turns.HeaderTurn.{ends as fails, opens}
 
+-- Of what comes to nothing nothing is written.
+pub nothing-told : (dump : Dump) (before after : State) → given dump before Nothing after ≡ (dump, [])
+unfolding given
+nothing-told dump before after = refl
+
 -- ---- One row more
 
 module _ (reading : Reading) (dump : Dump) (row : List ℕ) (rows : List (List ℕ)) where
   -- The text of a row, and then what is written from the dump after it on.
-  row-text : {after : Dump} {text : List ℕ} → given dump (reading .state) (rowOf reading row) ≡ (after, text)
+  row-text : {after : Dump} {text : List ℕ} → toldOf given dump reading (rowOf reading row) ≡ (after, text)
       → fromRows reading dump (row ∷ rows) ≡ text ++ fromRows (rowOf reading row .reading) after rows
-  unfolding fromRows
+  unfolding fromRows inRows
   row-text e = rw e
 
   -- The moments that a row adds, and then those after them.
@@ -39,17 +47,17 @@ module _ (reading : Reading) (dump : Dump) (row : List ℕ) (rows : List (List �
   row-moments e = rw e
 
 -- Of the end of the input nothing is written.
-end-in : (phase : Phase) (state : State) (dump : Dump) → given dump state (endOf (record { phase = phase; state = state })) ≡ (dump, [])
+end-in : (phase : Phase) (state : State) (dump : Dump) → toldOf given dump (record { phase = phase; state = state }) (endOf (record { phase = phase; state = state })) ≡ (dump, [])
 unfolding endOf given endsAt
 end-in Header state dump = refl
 end-in (Rows due) state dump = refl
 end-in (Ended line refusal) state dump = refl
 
-pub end-told : (reading : Reading) (dump : Dump) → given dump (reading .state) (endOf reading) ≡ (dump, [])
+pub end-told : (reading : Reading) (dump : Dump) → toldOf given dump reading (endOf reading) ≡ (dump, [])
 end-told reading dump = end-in (reading .phase) (reading .state) dump
 
 pub end-text : (reading : Reading) (dump : Dump) → fromRows reading dump [] ≡ []
-unfolding fromRows
+unfolding fromRows inRows
 end-text reading dump = ap (λ (g : Given). g .1) (end-told reading dump)
 
 -- ---- From row 0 on
@@ -109,9 +117,7 @@ nothing-dumped reading dump = none-dumped reading dump [] (end-text reading dump
 -- Where the reading is at its end, nothing more is written, and there is no more moment.
 pub nothing-more : (reading : Reading) (dump : Dump) → Silent reading → (rows : List (List ℕ)) → fromRows reading dump rows ≡ []
 unfolding fromRows
-nothing-more reading dump s [] = end-text reading dump
-nothing-more reading dump s (row ∷ rows) =
-    rw (s .at-row row, untold-quiet dump reading reading .told) (nothing-more reading dump s rows)
+nothing-more reading dump s rows = ap (λ (o : Outcome Dump). o .0) (by.nothing-more given nothing-told dump reading s rows)
 
 no-moments : (reading : Reading) (time : ℕ) → Silent reading → (rows : List (List ℕ)) → momentsFrom time reading rows ≡ []
 unfolding momentsFrom adds

@@ -1,3 +1,2 @@
 pub mod Moments
 pub mod Parts
-pub mod Runs

@@ -23,11 +23,12 @@ use Rattle.laws.proofs.Images.{reached-saves, reached-comes-back, started-is-re
 use Rattle.reading.specs.declared.Reading.{Reading}
 use Rattle.reading.specs.Rows.{hasStarted, readFrom}
 use Rattle.reading.specs.Whole.{readTo}
+use Rattle.reading.specs.declared.Run.{Run}
+use Rattle.reading.specs.Parts.{lineBytes, runFrom}
+use Rattle.reading.specs.Runs.{AllRoom, inputOf}
 use Rattle.reading.proofs.Kept.{trace-keeps}
-use Rattle.lesson.specs.declared.Lesson.{Lesson}
 use Rattle.lesson.specs.Replay.{resumedOf}
-use Rattle.lesson.specs.Parts.{lessonFrom, roomFor}
-use Rattle.lesson.specs.Runs.{Call, inputOf, AllRoom, leftInAll}
+use Rattle.lesson.specs.Parts.{room, leftInAll}
 use Rattle.lesson.proofs.Law.{left}
 use Rattle.lesson.proofs.Restarts.{start-stamp-not-used}
 use Rattle.handing.specs.Handing.{imageLeft, savedOf, savedBy, saveLastOf, wrote}
@@ -36,13 +37,13 @@ use Rattle.handing.proofs.Saving.{with-row-0, without-row-0, image-left
 -- ---- Into a lent buffer
 
 -- 8 exactly if there is an image to write and no room for it.
-pub refused-exactly : (lesson : Lesson) (out : List ℕ)
-    → saveLastOf lesson out .0 .refusal ≡ cond (hasStarted (lesson .reading .phase) && ltb (length out) size) 8 0
+pub refused-exactly : (run : Run) (out : List ℕ)
+    → saveLastOf run out .0 .refusal ≡ cond (hasStarted (run .reading .phase) && ltb (length out) size) 8 0
 unfolding saveOf
-refused-exactly lesson out =
-    either (hasStarted (lesson .reading .phase))
-    (λ read. rw (with-row-0 lesson out read, read) (either (ltb (length out) size) (λ short. rw short) (λ fits. rw fits)))
-    (λ unread. rw (without-row-0 lesson out unread, unread))
+refused-exactly run out =
+    either (hasStarted (run .reading .phase))
+    (λ read. rw (with-row-0 run out read, read) (either (ltb (length out) size) (λ short. rw short) (λ fits. rw fits)))
+    (λ unread. rw (without-row-0 run out unread, unread))
 
 -- An image of 204 bytes, where there is room.
 wrote-image : (s : State) (out : List ℕ) → length (imageOf s) ≡ size → size ≤ length out
@@ -50,16 +51,16 @@ wrote-image : (s : State) (out : List ℕ) → length (imageOf s) ≡ size → s
 unfolding saveOf
 wrote-image s out long fits = rw (le-ltb (length out) size fits) (take-at (imageOf s) (drop size out) size long)
 
-wrote-left : (lesson : Lesson) (out : List ℕ) → Reached (lesson .reading .state) → size ≤ length out
-    → wrote (saveLastOf lesson out) ≡ imageLeft (lesson .reading)
-wrote-left lesson out reached fits =
-    let s = lesson .reading .state in
-    either (hasStarted (lesson .reading .phase))
+wrote-left : (run : Run) (out : List ℕ) → Reached (run .reading .state) → size ≤ length out
+    → wrote (saveLastOf run out) ≡ imageLeft (run .reading)
+wrote-left run out reached fits =
+    let s = run .reading .state in
+    either (hasStarted (run .reading .phase))
     (λ read.
-    ap wrote (with-row-0 lesson out read)
+    ap wrote (with-row-0 run out read)
     ∙ wrote-image s out (reached-saves s reached .inRange .long) fits
-    ∙ sym (image-left (lesson .reading) read))
-    (λ unread. ap wrote (without-row-0 lesson out unread) ∙ sym (none-left (lesson .reading) unread))
+    ∙ sym (image-left (run .reading) read))
+    (λ unread. ap wrote (without-row-0 run out unread) ∙ sym (none-left (run .reading) unread))
 
 -- ---- From a fresh start or a taken image
 
@@ -71,19 +72,17 @@ module _ (state : State) (reached : Reached state) where
 
   -- However the trace is cut into parts, with any line buffer of 512 bytes and any output buffers that have room, what is written of the
   -- run that is left is what the whole trace gives.
-  pub saved : (line : List ℕ) (calls : List Call) (last : List ℕ)
-      → length line ≡ 512
-      → AllRoom calls
-      → roomFor 0 ≤ length last
-      → (out : List ℕ)
+  pub saved : (lends : ℕ → List ℕ) → AllRoom room lends
+      → (line : List ℕ) → length line ≡ lineBytes
+      → (parts : List (List ℕ)) (out : List ℕ)
       → size ≤ length out
-      → wrote (saveLastOf (leftInAll (lessonFrom state) line calls last) out) ≡ savedOf state (inputOf calls)
+      → wrote (saveLastOf (leftInAll lends (runFrom state) line parts) out) ≡ savedOf state (inputOf parts)
   unfolding savedOf
-  saved line calls last h rooms room out fits =
-      let e = left line calls last h rooms room state in
-      wrote-left (leftInAll (lessonFrom state) line calls last) out
-      (subst (λ (r : Reading). Reached (r .state)) (sym e) (left-is-reached (rowsOf (inputOf calls)))) fits
-      ∙ ap imageLeft e
+  saved lends rooms line h parts out fits =
+      let e = left lends rooms line h parts state in
+      wrote-left (leftInAll lends (runFrom state) line parts) out
+      (subst (λ (r : Run). Reached (r .reading .state)) (sym e) (left-is-reached (rowsOf (inputOf parts)))) fits
+      ∙ ap (λ (r : Run). imageLeft (r .reading)) e
 
   module _ (input : List ℕ) where
     -- The reading that the whole trace leaves.

@@ -7,17 +7,17 @@ use mathlib.Core.Path.{_≡_}
 use Rattle.image.specs.Images.{imageOf, saveOf}
 use Rattle.reading.specs.declared.Reading.{Reading}
 use Rattle.reading.specs.Rows.{hasStarted}
-use Rattle.lesson.specs.declared.Lesson.{Lesson}
+use Rattle.reading.specs.declared.Run.{Run}
 use Rattle.handing.specs.Handing.{imageLeft, savedBy, saveLastOf}
 
-module _ (lesson : Lesson) (buffer : List ℕ) where
-  pub with-row-0 : hasStarted (lesson .reading .phase) ≡ true
-      → saveLastOf lesson buffer ≡ savedBy (saveOf (lesson .reading .state) buffer)
+module _ (run : Run) (buffer : List ℕ) where
+  pub with-row-0 : hasStarted (run .reading .phase) ≡ true
+      → saveLastOf run buffer ≡ savedBy (saveOf (run .reading .state) buffer)
   unfolding saveLastOf
   with-row-0 e = rw e
 
-  pub without-row-0 : hasStarted (lesson .reading .phase) ≡ false
-      → saveLastOf lesson buffer ≡ (record { refusal = 0; written = 0 }, buffer)
+  pub without-row-0 : hasStarted (run .reading .phase) ≡ false
+      → saveLastOf run buffer ≡ (record { refusal = 0; written = 0 }, buffer)
   unfolding saveLastOf
   without-row-0 e = rw e
 

@@ -11,7 +11,7 @@ use Rattle.image.specs.Images.{size, imageOf, saveOf}
 use Rattle.reading.specs.declared.Reading.{Reading}
 use Rattle.reading.specs.Rows.{hasStarted, readFrom}
 use Rattle.reading.specs.Whole.{readTo}
-use Rattle.lesson.specs.declared.Lesson.{Lesson}
+use Rattle.reading.specs.declared.Run.{Run}
 use Rattle.handing.specs.declared.Saved.{Saved}
 
 -- ---- The whole run
@@ -33,9 +33,9 @@ savedBy answer = (record { refusal = answer .0; written = cond (eqb (answer .0) 
 
 -- 8: there is an image to write, and the buffer is shorter; it is left as it was. Else 0: what is written stands in front, and the
 -- bytes past it stay.
-unfoldable pub saveLastOf : Lesson → List ℕ → Saved × List ℕ
-saveLastOf lesson buffer =
-    cond (hasStarted (lesson .reading .phase)) (savedBy (saveOf (lesson .reading .state) buffer))
+unfoldable pub saveLastOf : Run → List ℕ → Saved × List ℕ
+saveLastOf run buffer =
+    cond (hasStarted (run .reading .phase)) (savedBy (saveOf (run .reading .state) buffer))
     (record { refusal = 0; written = 0 }, buffer)
 
 -- What was written: so many bytes of the buffer as the answer says.

@@ -6,12 +6,27 @@ ghost use Rattle.image.specs.Images.{saveOf};
 ghost use Rattle.handing.specs.Handing.{savedBy, saveLastOf};
 use controller::State;
 use image::SIZE;
-use lesson::Lesson;
+use reading::Run;
 
 // What saving gives: 0 or refusal 8, and how many bytes were written.
 pub struct Saved {
     pub refusal: u8,
     pub written: usize,
+}
+
+// Saves the last state of a run into a lent buffer, which must have room for an image. Where row 0 has not been read there is none,
+// and nothing is written.
+pub fn save_last(run: Run, out: &mut [u8]) -> Saved
+    ensures { λ r. ⌜ (r, now (out .exit)) ≡ saveLastOf run (now (out .entry)) ⌝ }
+{
+    let phase = run.phase();
+    if phase.has_started() {
+        return save_state(run.state(), out);
+    }
+    Saved {
+        refusal: 0,
+        written: 0,
+    }
 }
 
 // Saves a controller into a lent buffer.
@@ -27,21 +42,6 @@ fn save_state(state: State, out: &mut [u8]) -> Saved
     }
     Saved {
         refusal,
-        written: 0,
-    }
-}
-
-// Saves the last state of a run into a lent buffer, which must have room for an image. Where row 0 has not been read there is none,
-// and nothing is written.
-pub fn save_last(lesson: Lesson, out: &mut [u8]) -> Saved
-    ensures { λ r. ⌜ (r, now (out .exit)) ≡ saveLastOf lesson (now (out .entry)) ⌝ }
-{
-    let phase = lesson.phase();
-    if phase.has_started() {
-        return save_state(lesson.state(), out);
-    }
-    Saved {
-        refusal: 0,
         written: 0,
     }
 }

@@ -7,8 +7,8 @@
 mod images;
 
 use controller::State;
-use lesson::Lesson;
 use reading::Phase;
+use reading::Run;
 
 // The name that this program goes by on standard error.
 const NAME: [u8; 8] = *b"handover";
@@ -82,24 +82,24 @@ fn tell(phase: Phase) {
     );
 }
 
-// Runs the trace from a lesson at its start, and puts out the image of its last state.
-fn save(start: Lesson) {
+// Runs the trace from a run at its start, and puts out the image of its last state.
+fn save(start: Run) {
     let mut line = [0u8; 512];
     let ran = running::to_its_end(&NAME, start, &mut line);
     if !ran.well {
         return;
     }
-    let lesson = ran.lesson;
+    let run = ran.run;
     let mut out = [0u8; 204];
-    let saved = handing::save_last(lesson, &mut out);
+    let saved = handing::save_last(run, &mut out);
     words::put(&NAME, &out, saved.written);
-    tell(lesson.phase());
+    tell(run.phase());
 }
 
 // Goes on with the trace from a controller.
 fn resume(state: State) {
     let mut line = [0u8; 512];
-    running::rows(&NAME, Lesson::from(state), &mut line);
+    running::rows(&NAME, Run::from(state), &mut line);
 }
 
 // Shows a controller in plain words.
@@ -117,7 +117,7 @@ fn with_image(purpose: Purpose) {
     }
     let state = loaded.state;
     match purpose {
-        Purpose::Save => save(Lesson::from(state)),
+        Purpose::Save => save(Run::from(state)),
         Purpose::Resume => resume(state),
         Purpose::Show => show(state),
     }
@@ -125,7 +125,7 @@ fn with_image(purpose: Purpose) {
 
 fn main() {
     match by_arguments() {
-        Asked::SaveFresh => save(Lesson::new()),
+        Asked::SaveFresh => save(Run::new()),
         Asked::WithImage(purpose) => with_image(purpose),
         Asked::Nothing => words::say(
             &NAME,

@@ -1,8 +1,6 @@
-pub mod Writing
-pub mod Placing
-pub mod Turns
 pub mod Law
+pub mod Once
 pub mod Restarts
-pub mod Room
 pub mod Worked
-mod Once
+pub mod Telling
+pub mod Writing

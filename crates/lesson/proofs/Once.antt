@@ -4,39 +4,17 @@ use Prim.Native.Nat.{ℕ}
 use mathlib.Core.List.{List}
 use mathlib.Core.Path.{_∙_, sym}
 use denote.Ref.{now}
-use Rattle.common.specs.OneAnswer.{OneAnswer, OneAnswerAnd}
+use Rattle.common.specs.OneAnswer.{OneAnswerAnd}
 use Rattle.common.proofs.Pairs.{all-three}
-use Rattle.lesson.proofs.Lesson.from.Kinds as from-kinds
-use Rattle.lesson.proofs.Lesson.from.Reads as from-reads
-use Rattle.lesson.proofs.Lesson.new.Kinds as new-kinds
-use Rattle.lesson.proofs.Lesson.new.Reads as new-reads
-use Rattle.lesson.proofs.Lesson.phase.Kinds as phase-kinds
-use Rattle.lesson.proofs.Lesson.phase.Reads as phase-reads
-use Rattle.lesson.proofs.Lesson.state.Kinds as state-kinds
-use Rattle.lesson.proofs.Lesson.state.Reads as state-reads
-use Rattle.lesson.proofs.Lesson.take.Kinds as take-kinds
-use Rattle.lesson.proofs.Lesson.take.Reads as take-reads
-use Rattle.lesson.proofs.Lesson.finish.Kinds as finish-kinds
-use Rattle.lesson.proofs.Lesson.finish.Reads as finish-reads
+use Rattle.lesson.proofs.take.Kinds as take-kinds
+use Rattle.lesson.proofs.take.Reads as take-reads
+use Rattle.lesson.proofs.finish.Kinds as finish-kinds
+use Rattle.lesson.proofs.finish.Reads as finish-reads
 
-pub from-once : OneAnswer 0 from-kinds.ps from-kinds.r from-reads.Post
-from-once κs a x y s t p q = p ∙ sym q
-
-pub new-once : OneAnswer 0 new-kinds.ps new-kinds.r new-reads.Post
-new-once κs a x y s t p q = p ∙ sym q
-
-pub phase-once : OneAnswer 0 phase-kinds.ps phase-kinds.r phase-reads.Post
-phase-once κs a x y s t p q = p ∙ sym q
-
-pub state-once : OneAnswer 0 state-kinds.ps state-kinds.r state-reads.Post
-state-once κs a x y s t p q = p ∙ sym q
-
--- Both lent buffers, as `take` leaves them: the line buffer and the output buffer.
 pub take-once : OneAnswerAnd 3 take-kinds.ps take-kinds.r take-reads.Post (List ℕ × List ℕ)
     (λ κs s. (now (s .1 .1 .0), now (s .1 .1 .1 .0)))
-take-once κs a x y s t p q = all-three (p ∙ sym q)
+take-once κs a x y s t p q = all-three (p .0 ∙ sym (q .0))
 
--- And as `finish` leaves them.
 pub finish-once : OneAnswerAnd 2 finish-kinds.ps finish-kinds.r finish-reads.Post (List ℕ × List ℕ)
     (λ κs s. (now (s .1 .0), now (s .1 .1 .0)))
-finish-once κs a x y s t p q = all-three (p ∙ sym q)
+finish-once κs a x y s t p q = all-three (p .0 ∙ sym (q .0))

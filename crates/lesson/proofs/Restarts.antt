@@ -3,7 +3,7 @@
 -- Assumes nothing.
 use Prim.Native.Nat.{ℕ}
 use mathlib.Core.List.{List, [], _∷_, _++_}
-use mathlib.Core.Path.{_≡_, refl, sym, ap, _∙_}
+use mathlib.Core.Path.{_≡_, refl, sym, ap, ap₂, _∙_}
 use Rattle.common.specs.Answers.{Answer as RowAnswer, gives, refuses}
 use Rattle.lines.specs.Rows.{rowsOf}
 use Rattle.trace.specs.declared.Due.the-variants.{Label}
@@ -20,8 +20,13 @@ use Rattle.reading.proofs.Ends.{after-refusal}
 use Rattle.reading.proofs.FirstRow.{First, first-row}
 use Rattle.reading.proofs.FirstRow.First.{ends as fails, opens}
 use Rattle.reading.proofs.Starts.{row-0-starts}
-use Rattle.lesson.specs.Replay.{textOf, writtenOf, resumedOf}
+use Rattle.reading.specs.Runs.{inRows}
+use Rattle.lesson.specs.Replay.{textBy, writtenOf, resumedOf}
 use Rattle.lesson.proofs.Law.{nothing-written}
+
+-- What is written of a row.
+abbrev textOf : Heard → List ℕ
+textOf heard = textBy (heard .came) (heard .reading .state)
 
 module _ (s : State) (stamp : ℕ) where
   -- The two readings at a phase, and that the same is written from both.
@@ -41,8 +46,8 @@ module _ (s : State) (stamp : ℕ) where
       → textOf a ≡ textOf b
       → writtenOf (a .reading) rows ≡ writtenOf (b .reading) rows
       → Same phase (row ∷ rows)
-  unfolding writtenOf
-  one-row phase row rows a b e f text others = rw (e, f, text) (ap (λ (l : List ℕ). textOf b ++ l) others)
+  unfolding writtenOf inRows
+  one-row phase row rows a b e f text others = rw (e, f) (ap₂ (λ (l m : List ℕ). l ++ m) text others)
 
   -- A row that ends the reading in both.
   ended : (line refusal : ℕ) (rows : List (List ℕ)) → Same (Ended line refusal) rows
@@ -54,7 +59,7 @@ module _ (s : State) (stamp : ℕ) where
       → rowOf (there phase) row ≡ endsAt line refusal (startedAt stamp s)
       → rowOf (here phase) row ≡ endsAt line refusal s
       → Same phase (row ∷ rows)
-  unfolding endsAt textOf
+  unfolding endsAt
   ends phase row rows line refusal e f = one-row phase row rows _ _ e f refl (ended line refusal rows)
 
   -- Where row 0 is due: it gives the start stamp in both.
@@ -68,18 +73,18 @@ module _ (s : State) (stamp : ℕ) where
   row-0 row rows (refuses n) sample e = ends (Rows (Label 0)) row rows 2 n (rw e) (rw e)
 
   from-row-0 : (rows : List (List ℕ)) → Same (Rows (Label 0)) rows
-  unfolding writtenOf endOf textOf
+  unfolding writtenOf inRows endOf
   from-row-0 [] = refl
   from-row-0 (row ∷ rows) = row-0 row rows (readRow row (Label 0) noSample .0) (readRow row (Label 0) noSample .1) refl
 
   -- Where the header is due.
   header : (row : List ℕ) (rows : List (List ℕ)) → First row → Same Header (row ∷ rows)
-  unfolding rowOf textOf
+  unfolding rowOf
   header row rows (fails refusal e) = ends Header row rows 1 refusal (e (startedAt stamp s)) (e s)
   header row rows (opens e) = one-row Header row rows _ _ (e (startedAt stamp s)) (e s) refl (from-row-0 rows)
 
   from-header : (rows : List (List ℕ)) → Same Header rows
-  unfolding writtenOf endOf endsAt textOf
+  unfolding writtenOf inRows endOf endsAt
   from-header [] = refl
   from-header (row ∷ rows) = header row rows (first-row row)
 

@@ -16,7 +16,8 @@ use Rattle.names.specs.Words.{sensorNames, orderNames, lampNames}
 use Rattle.output.specs.Rows.{headerText, rowText, refusalText}
 use Rattle.reading.specs.Rows.{endsAt, headerRow, answerTo, shownRow, noSample, traceRow, rowOf, endOf, nothingRead}
 use Rattle.reading.specs.Whole.{readTo}
-use Rattle.lesson.specs.Replay.{textOf, writtenOf, replayOf, resumedOf}
+use Rattle.reading.specs.Runs.{inRows}
+use Rattle.lesson.specs.Replay.{writtenOf, replayOf, resumedOf}
 use Rattle.lesson.specs.Cases.{ended, trace, output, replays, rowsOfS, sessionS, handedOver, early, afterTheLastLabel}
 
 pub worked : AllAsWanted (sessionS ∷ handedOver ∷ afterTheLastLabel ∷ early)
@@ -24,6 +25,6 @@ unfolding
     rules startedAt
     before rowsOf digitsFrom numberOf tripleOf fieldsOf triplesOf formOf inTurn readRow headerNames sensorNames traceHeader sameText
     decimal decimalUpTo joinedByCommas orderNames lampNames headerText rowText refusalText
-    endsAt headerRow answerTo shownRow noSample traceRow rowOf endOf nothingRead readTo textOf writtenOf replayOf resumedOf
+    endsAt headerRow answerTo shownRow noSample traceRow rowOf endOf nothingRead readTo inRows writtenOf replayOf resumedOf
     ended trace output replays rowsOfS sessionS handedOver early afterTheLastLabel
 worked = refl

@@ -17,11 +17,7 @@ use Rattle.output.specs.Answers.{writtenSays}
 use Rattle.output.specs.Rows.{rowText, refusalText, written}
 use Rattle.common.proofs.Decimals.{decimal-length}
 use Rattle.output.proofs.Sizes.{row-length, row-at-most-49, refusal-length}
-use Rattle.reading.specs.declared.Heard.{Heard}
-use Rattle.lesson.specs.declared.Took.{Took}
-use Rattle.lesson.specs.Replay.{textOf}
-use Rattle.lesson.specs.Parts.{ending, placed}
-use Rattle.lesson.specs.Writes.{bytesOf, inFront, told}
+use Rattle.lesson.specs.Writes.{bytesOf, told}
 
 pub row-fits : (label code : ℕ) (s : Shown) → label < 2 ^ 32 → code < 2 ^ 8 → length (rowText label code s) ≤ 64
 row-fits label code s l c =
@@ -43,7 +39,7 @@ refusal-fits line refusal l r =
     )
 
 wrote : (w : Written) (buffer text out : List ℕ) → (writtenSays w, buffer) ≡ written text out → length text ≤ length out
-    → (bytesOf w ≡ length text) × (buffer ≡ inFront text out)
+    → (bytesOf w ≡ length text) × (buffer ≡ told text out .1)
 unfolding written
 wrote (Bytes n) buffer text out e h =
     let f = both (rw (le-ltb (length out) (length text) h) at e) in
@@ -62,18 +58,3 @@ pub told-text : (w : Written) (n : ℕ) (buffer text out : List ℕ)
 told-text w n buffer text out e f h =
     let g = wrote w buffer text out f h in
     ap (λ (m : ℕ). (m, buffer)) (e ∙ g .0) ∙ ap (λ (b : List ℕ). (length text, b)) (g .1)
-
--- The last row: what it writes stands in front of the output buffer.
-pub placed-told : (heard : Heard) (line out buffer : List ℕ) (n : ℕ) (t : Took)
-    → t ≡ record { refusal = 0; lesson = record { reading = heard .reading; len = 0; cr = false }; written = n }
-    → (n, buffer) ≡ told (textOf heard) out
-    → (t, line, buffer) ≡ placed (ending heard line) out
-unfolding placed
-placed-told heard line out buffer n t e f =
-    ap (λ (x : Took). (x, line, buffer)) e
-    ∙ ap
-    (λ (x : ℕ × List ℕ). (
-      record { refusal = 0; lesson = record { reading = heard .reading; len = 0; cr = false }; written = x .0 },
-      line,
-      x .1,
-    )) f

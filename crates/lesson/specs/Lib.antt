@@ -1,5 +1,4 @@
 pub mod Replay
 pub mod Parts
 pub mod Writes
-pub mod Runs
 pub mod Cases

@@ -2,7 +2,7 @@
 -- output. What each row comes to is the rule of `reading`; here is the text that is written of it.
 -- Assumes nothing.
 use Prim.Native.Nat.{ℕ}
-use mathlib.Core.List.{List, [], _∷_, _++_}
+use mathlib.Core.List.{List, [], _++_}
 use Rattle.lines.specs.Rows.{rowsOf}
 use Rattle.controller.specs.declared.State.{State}
 use Rattle.controller.specs.Lamps.{shownOf}
@@ -10,8 +10,8 @@ use Rattle.output.specs.Rows.{headerText, rowText, refusalText}
 use Rattle.reading.specs.declared.Reading.{Reading}
 use Rattle.reading.specs.declared.Came.{Came}
 use Rattle.reading.specs.declared.Came.the-variants.{Nothing, Answered, Refused}
-use Rattle.reading.specs.declared.Heard.{Heard}
-use Rattle.reading.specs.Rows.{rowOf, endOf, readFrom, nothingRead}
+use Rattle.reading.specs.Rows.{readFrom, nothingRead}
+use Rattle.reading.specs.Runs.{Teller, inRows}
 
 -- ---- One row
 
@@ -22,15 +22,15 @@ textBy Nothing state = []
 textBy (Answered label code) state = rowText label code (shownOf state)
 textBy (Refused line refusal) state = refusalText line refusal
 
-unfoldable pub textOf : Heard → List ℕ
-textOf heard = textBy (heard .came) (heard .reading .state)
+-- What is made of a row: that text. Nothing is carried on from row to row.
+abbrev pub textTold : Teller (Unit {0})
+textTold nothing before came after = (Prim.tt, textBy came after)
 
 -- ---- The whole run
 
 -- The rows one after the other, and the end of the input.
 unfoldable pub writtenOf : Reading → List (List ℕ) → List ℕ
-writtenOf reading [] = textOf (endOf reading)
-writtenOf reading (row ∷ rows) = textOf (rowOf reading row) ++ writtenOf (rowOf reading row .reading) rows
+writtenOf reading rows = inRows textTold Prim.tt reading rows .0
 
 -- The output header comes first in every case; then what is written of the rows of the input.
 unfoldable pub replayOf : List ℕ → List ℕ

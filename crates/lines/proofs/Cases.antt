@@ -5,7 +5,8 @@ use mathlib.Core.Bool.{Bool, true, false}
 use mathlib.Core.List.{List, [], _∷_, _++_, map}
 use mathlib.Core.Path.{_≡_, refl}
 use lib.ListN.{replicate}
-use Rattle.lines.specs.Rows.{cr, lf, before, rowsOf}
+use Rattle.common.specs.Ascii.{cr, lf}
+use Rattle.lines.specs.Rows.{before, rowsOf}
 use Rattle.lines.specs.Cuts.{cutFrom, cutOf, lastFrom, lastOf}
 use Rattle.lines.specs.declared.Taken.{Taken}
 use Rattle.lines.specs.declared.Taken.the-variants.{Row, More, Over}

@@ -13,7 +13,8 @@ use borrow.Author.Tests.{eqb-true, eqb-false, ltb-true, ltb-false, leb-true, leb
 use lib.Dec.{eqb, ltb, leb}
 use lib.ListN.{length, take, drop, set, length-append, length-drop, length-set, length-take, drop-of-length-le}
 use lib.Seq.{append-snoc, drop-drop, drop-length, take-suc-set}
-use Rattle.lines.specs.Rows.{cr, lf, before, rowsOf}
+use Rattle.common.specs.Ascii.{cr, lf}
+use Rattle.lines.specs.Rows.{before, rowsOf}
 use Rattle.lines.specs.Cuts.{held, lfFirst, rowsFrom, cutFrom, cutOf, lastFrom, lastOf}
 use Rattle.lines.specs.declared.Taken.{Taken}
 use Rattle.lines.specs.declared.Taken.the-variants.{Row, More, Over}

@@ -13,7 +13,7 @@ use lib.Dec.{eqb}
 use lib.ListN.{length, take, drop, getD, set, drop-of-length-le, length-take, length-drop, length-set}
 use lib.Seq.{sets, sets-eq, take-all, take-length, length-take-le, take-add, drop-at, drop-cons, drop-drop}
 use Rattle.bytes.specs.Bytes.{slice, indexOf, indexAfter}
-use Rattle.lines.specs.Rows.{cr, lf}
+use Rattle.common.specs.Ascii.{cr, lf}
 use Rattle.lines.specs.Cuts.{empty, lfFirst, cutFrom}
 use Rattle.lines.specs.declared.Taken.the-variants.{Row, More, Over}
 

@@ -5,7 +5,8 @@ use mathlib.Core.Bool.{Bool, true, false, cond, _&&_}
 use mathlib.Core.List.{List, [], _∷_, _++_}
 use lib.Dec.{eqb, ltb}
 use lib.ListN.{length, drop, set}
-use Rattle.lines.specs.Rows.{cr, lf, before, rowsOf}
+use Rattle.common.specs.Ascii.{cr, lf}
+use Rattle.lines.specs.Rows.{before, rowsOf}
 use Rattle.lines.specs.declared.Taken.{Taken}
 use Rattle.lines.specs.declared.Taken.the-variants.{Row, More, Over}
 use Rattle.lines.specs.declared.Final.{Final}

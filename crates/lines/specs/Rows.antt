@@ -4,13 +4,7 @@ use Prim.Native.Nat.{ℕ}
 use mathlib.Core.Bool.{cond, _&&_}
 use mathlib.Core.List.{List, [], _∷_, _++_}
 use lib.Dec.{eqb}
-
--- The two bytes of a line break.
-abbrev pub cr : ℕ
-cr = 13
-
-abbrev pub lf : ℕ
-lf = 10
+use Rattle.common.specs.Ascii.{cr, lf}
 
 -- The bytes of a row under way, in front of the rows of what follows them. They belong to the first of those rows; where
 -- nothing follows, they are the last row.

@@ -6,7 +6,7 @@ ghost use mathlib.Core.Path.{_≡_};
 ghost use Prim.Native.Nat.{_+_, _≤_, min};
 ghost use mathlib.Core.List.{_∷_};
 ghost use lib.ListN.{length, drop};
-ghost use Rattle.lines.specs.Rows.{cr};
+ghost use Rattle.common.specs.Ascii.{cr};
 ghost use Rattle.lines.specs.Cuts.{cutFrom, cutOf, lastOf};
 
 const CR: u8 = 13;
@@ -31,6 +31,36 @@ pub enum Final {
     Last { len: usize },
     // The last row is longer than the line.
     Wider,
+}
+
+// Takes the bytes of `part` from `from` on into `line`, behind its first `len` bytes and a held CR: up to the CRLF that
+// ends the row, the part's end, or the byte that makes the row longer than the line.
+pub fn cut(part: &[u8], from: usize, line: &mut [u8], len: usize, cr: bool) -> Taken
+    ensures { λ r. ⌜ (r, now (line .exit)) ≡ cutOf (now (part .entry)) from (now (line .entry)) len cr ⌝ }
+{
+    let n = within(len, line.len());
+    if cr {
+        return follow(part, from, line, n);
+    }
+    fill(part, from, line, n)
+}
+
+// The end of the input: what the first `len` bytes of `line` and a held CR are as a last row.
+pub fn last(line: &mut [u8], len: usize, cr: bool) -> Final
+    ensures { λ r. ⌜ (r, now (line .exit)) ≡ lastOf (now (line .entry)) len cr ⌝ }
+{
+    let n = within(len, line.len());
+    if cr {
+        if line.len() <= n {
+            return Final::Wider;
+        }
+        line[n] = CR;
+        return Final::Last { len: n + 1 };
+    }
+    if n == 0 {
+        return Final::Nothing;
+    }
+    Final::Last { len: n }
 }
 
 // The smaller of two lengths.
@@ -111,34 +141,4 @@ fn follow(part: &[u8], from: usize, line: &mut [u8], len: usize) -> Taken
     }
     line[len] = CR;
     fill(part, from, line, len + 1)
-}
-
-// Takes the bytes of `part` from `from` on into `line`, behind its first `len` bytes and a held CR: up to the CRLF that
-// ends the row, the part's end, or the byte that makes the row longer than the line.
-pub fn cut(part: &[u8], from: usize, line: &mut [u8], len: usize, cr: bool) -> Taken
-    ensures { λ r. ⌜ (r, now (line .exit)) ≡ cutOf (now (part .entry)) from (now (line .entry)) len cr ⌝ }
-{
-    let n = within(len, line.len());
-    if cr {
-        return follow(part, from, line, n);
-    }
-    fill(part, from, line, n)
-}
-
-// The end of the input: what the first `len` bytes of `line` and a held CR are as a last row.
-pub fn last(line: &mut [u8], len: usize, cr: bool) -> Final
-    ensures { λ r. ⌜ (r, now (line .exit)) ≡ lastOf (now (line .entry)) len cr ⌝ }
-{
-    let n = within(len, line.len());
-    if cr {
-        if line.len() <= n {
-            return Final::Wider;
-        }
-        line[n] = CR;
-        return Final::Last { len: n + 1 };
-    }
-    if n == 0 {
-        return Final::Nothing;
-    }
-    Final::Last { len: n }
 }

@@ -1,6 +1,7 @@
-pub mod Cutting
-pub mod FirstRow
 pub mod Ends
+pub mod FirstRow
 pub mod Starts
 pub mod Kept
+pub mod Lending
+pub mod ByParts
 pub mod Once

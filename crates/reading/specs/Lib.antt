@@ -1,4 +1,5 @@
-pub mod Lasts
 pub mod Rows
 pub mod Ends
 pub mod Whole
+pub mod Parts
+pub mod Runs

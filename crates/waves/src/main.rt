@@ -7,7 +7,6 @@ ghost use lib.ListN.{length};
 use dumping::Took;
 use dumping::Waves;
 use libc::STDIN_FILENO;
-use reading::Phase;
 
 // The name that this program goes by on standard error.
 const NAME: [u8; 5] = *b"waves";
@@ -16,28 +15,6 @@ const NAME: [u8; 5] = *b"waves";
 struct After {
     on: bool,
     waves: Waves,
-}
-
-// The place in the output buffer to write on from, and whether all went well.
-struct Place {
-    ok: bool,
-    at: usize,
-}
-
-// Puts out what is gathered where less than the room for a row is left.
-fn room_at(out: &[u8], at: usize) -> Place
-    ensures { λ r. ⌜ r .at ≤ length (now (out .entry)) ⌝ }
-{
-    if out.len() < at {
-        return Place { ok: false, at: 0 };
-    }
-    if dumping::ROOM <= out.len() - at {
-        return Place { ok: true, at };
-    }
-    Place {
-        ok: words::put(&NAME, out, at),
-        at: 0,
-    }
 }
 
 // The next row of the part, written at a place of the output buffer.
@@ -61,7 +38,7 @@ fn take_part(waves: Waves, part: &[u8], line: &mut [u8], out: &mut [u8]) -> Afte
     let mut from = 0;
     let mut at = 0;
     while from < part.len() {
-        let place = room_at(out, at);
+        let place = running::room_at(&NAME, out, at, dumping::ROOM);
         if !place.ok {
             return After {
                 on: false,
@@ -69,13 +46,13 @@ fn take_part(waves: Waves, part: &[u8], line: &mut [u8], out: &mut [u8]) -> Afte
             };
         }
         let took = take_at(next, part, from, line, out, place.at);
+        next = took.waves;
         if took.used == 0 {
             return After {
                 on: false,
                 waves: next,
             };
         }
-        next = took.waves;
         from += took.used;
         at = place.at + took.written;
     }
@@ -85,20 +62,12 @@ fn take_part(waves: Waves, part: &[u8], line: &mut [u8], out: &mut [u8]) -> Afte
     }
 }
 
-// On standard error, in one line, what ended the reading before the end of the input, if anything did.
-fn tell(phase: Phase, buffer: &[u8]) {
-    let Phase::Ended { line, refusal } = phase else {
-        return;
-    };
-    words::refused(&NAME, line, refusal, buffer);
-}
-
 // The end of the input: what is still to be written, and what ended the reading.
 fn end(waves: Waves, line: &mut [u8], out: &mut [u8]) {
     let took = waves.finish(line, out);
     let next = took.waves;
     if words::put(&NAME, out, took.written) {
-        tell(next.phase(), line);
+        running::tell(&NAME, next.phase(), line);
     }
 }
 
@@ -107,7 +76,7 @@ fn goes_on(after: After, line: &[u8]) -> After {
     let next = after.waves;
     let phase = next.phase();
     if after.on & phase.has_ended() {
-        tell(phase, line);
+        running::tell(&NAME, phase, line);
         return After {
             on: false,
             waves: next,

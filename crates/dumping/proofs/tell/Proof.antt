@@ -3,7 +3,6 @@
 use mathlib.Core.Path.{ap, _∙_}
 use borrow.Author.Needs.{needs}
 use Rattle.dumping.specs.declared.Told.{Told}
-use Rattle.dumping.specs.Parts.{given}
 use Rattle.dumping.proofs.Telling.{told-nothing}
 use Rattle.dumping.proofs.tell.Statement.{statement}
 use Rattle.dumping.proofs.tell.Tie as tie
@@ -17,6 +16,9 @@ tell-nothing-requires c κs = search needs
 enum-known-came : tie.Need-enum-known-came
 enum-known-came c = search needs
 
+state-requires : tie.Need-state-requires
+state-requires c κs = search needs
+
 tell-row-requires : tie.Need-tell-row-requires
 tell-row-requires c κs = search needs
 
@@ -27,9 +29,8 @@ tell-nothing-requires-2 : tie.Need-tell-nothing-requires-2
 tell-nothing-requires-2 c κs = search needs
 
 returns : tie.Need-returns
-unfolding given
 returns c =
-    let a = c .before .before .before .before .before .before .args in
+    let a = c .before .before .before .before .before .args in
     rw (c .before .enum-told .given .1)
     (ap (λ (t : Told). (t, a .out .now)) (c .tell-nothing .ensures) ∙ told-nothing (a .dump) (a .out .now))
 
@@ -37,14 +38,13 @@ same-length : tie.Need-same-length
 same-length c = search needs
 
 returns-2 : tie.Need-returns-2
-unfolding given
 returns-2 c =
-    let t = c .before .before in rw (t .before .before .before .came .given .1) (t .tell-row .ensures)
+    let t = c .before .before in
+    let s = t .before .before in rw (s .before .before .came .given .1, ← s .state .ensures) (t .tell-row .ensures)
 
 returns-3 : tie.Need-returns-3
-unfolding given
 returns-3 c =
-    let a = c .before .before .before .before .before .before .args in
+    let a = c .before .before .before .before .before .args in
     rw (c .before .enum-told2 .given .1)
     (ap (λ (t : Told). (t, a .out .now)) (c .tell-nothing2 .ensures) ∙ told-nothing (a .dump) (a .out .now))
 
@@ -55,6 +55,7 @@ tell-spec =
     enum-told
     tell-nothing-requires
     enum-known-came
+    state-requires
     tell-row-requires
     enum-told-2
     tell-nothing-requires-2

@@ -3,7 +3,6 @@
 use native.Mathlib.Omega.{arith}
 use borrow.Author.Needs.{needs}
 use Rattle.output.specs.Rows.{rowText, refusalText}
-use Rattle.lesson.specs.Replay.{textOf}
 use Rattle.lesson.proofs.Writing.{row-fits, refusal-fits, told-text}
 use Rattle.lesson.proofs.tell.Statement.{statement}
 use Rattle.lesson.proofs.tell.Tie as tie
@@ -13,6 +12,9 @@ enum-told c = search needs
 
 enum-known-came : tie.Need-enum-known-came
 enum-known-came c = search needs
+
+state-requires : tie.Need-state-requires
+state-requires c κs = search needs
 
 shown-requires : tie.Need-shown-requires
 shown-requires c κs = search needs
@@ -33,19 +35,17 @@ bytes-of-requires-2 : tie.Need-bytes-of-requires-2
 bytes-of-requires-2 c κs = search needs
 
 returns : tie.Need-returns
-unfolding textOf
 returns c = rw (c .enum-told .given .1)
 
 same-length : tie.Need-same-length
 same-length c = search needs
 
 returns-2 : tie.Need-returns-2
-unfolding textOf
 returns-2 c =
     let w = c .before .before .before .write-row in
     let s = c .before .before .before .before .before in
-    let g = s .before .before .came .given in
-    rw (g .1, ← s .shown .ensures)
+    let g = s .before .before .before .came .given in
+    rw (g .1, ← s .before .state .ensures, ← s .shown .ensures)
     (told-text (w .result) _ _ (rowText (g .0 .0) (g .0 .1 .0) (s .shown .result)) _ (c .bytes-of .ensures) (w .ensures)
     (omega (arith, row-fits (g .0 .0) (g .0 .1 .0) (s .shown .result) (search needs) (search needs))))
 
@@ -53,7 +53,6 @@ same-length-2 : tie.Need-same-length-2
 same-length-2 c = search needs
 
 returns-3 : tie.Need-returns-3
-unfolding textOf
 returns-3 c =
     let w = c .before .before .before .write-refusal in
     let g = c .before .before .before .before .before .before .came2 .given in
@@ -67,6 +66,7 @@ tell-spec =
     (tie.spec
     enum-told
     enum-known-came
+    state-requires
     shown-requires
     write-row-requires
     bytes-of-requires

@@ -4,7 +4,7 @@ use mathlib.Core.Path.{refl, sym, _∙_}
 use native.Mathlib.Omega.{arith}
 use borrow.Author.Needs.{needs}
 use lib.ListN.{length, drop, length-set}
-use Rattle.lines.specs.Rows.{cr}
+use Rattle.common.specs.Ascii.{cr}
 use Rattle.lines.proofs.Steps.{no-lf, on-byte, on-over, held-at, break-at}
 use Rattle.lines.proofs.follow.Statement.{statement}
 use Rattle.lines.proofs.follow.Tie as tie

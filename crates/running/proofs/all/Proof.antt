@@ -7,11 +7,11 @@ use Rattle.running.proofs.all.Statement.{statement}
 use Rattle.running.proofs.all.Tie as tie
 
 abbrev Inv-loop : tie.InvT-loop
-Inv-loop name shows input₀ line₀ out₀ lesson₀ turns₀ input line out lesson turns =
+Inv-loop name shows input₀ line₀ out₀ run₀ turns₀ input line out run turns =
     (length input ≡ length input₀) × (length line ≡ length line₀) × (length out ≡ length out₀)
 
 abbrev μ-loop : tie.MeasureT-loop
-μ-loop name shows input₀ line₀ out₀ lesson₀ turns₀ input line out lesson turns = turns
+μ-loop name shows input₀ line₀ out₀ run₀ turns₀ input line out run turns = turns
 
 loop-holds : tie.Need-loop-holds Inv-loop μ-loop
 loop-holds c = search needs

@@ -43,23 +43,17 @@ same-length-4 c = search needs
 returns-2 : tie.Need-returns-2
 returns-2 c = search needs
 
-slice-reshare-prefix-take : tie.Need-slice-reshare-prefix-take
-slice-reshare-prefix-take c = search needs
+slice-reshare-prefix-take-part : tie.Need-slice-reshare-prefix-take-part
+slice-reshare-prefix-take-part c = search needs
 
-slice-aggregate-take : tie.Need-slice-aggregate-take
-slice-aggregate-take c = search needs
+slice-aggregate-take-part : tie.Need-slice-aggregate-take-part
+slice-aggregate-take-part c = search needs
 
-take-requires : tie.Need-take-requires
-take-requires c κs = search needs
-
-took-in-requires : tie.Need-took-in-requires
-took-in-requires c κs = search needs
+take-part-requires : tie.Need-take-part-requires
+take-part-requires c κs = search needs
 
 same-length-5 : tie.Need-same-length-5
-same-length-5 c =
-    let taken = c .before .before .before .before .before .before in
-    let counted = taken .before .before .before .before .before in
-    counted .before .before .before .before .before .read .kept .1 .0
+same-length-5 c = c .before .before .before .before .before .before .before .before .before .before .before .before .before .before .read .kept .1 .0
 
 same-length-6 : tie.Need-same-length-6
 same-length-6 c = search needs
@@ -87,10 +81,9 @@ turn-spec =
     same-length-3
     same-length-4
     returns-2
-    slice-reshare-prefix-take
-    slice-aggregate-take
-    take-requires
-    took-in-requires
+    slice-reshare-prefix-take-part
+    slice-aggregate-take-part
+    take-part-requires
     same-length-5
     same-length-6
     same-length-7

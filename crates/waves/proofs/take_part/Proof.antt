@@ -9,14 +9,17 @@ use Rattle.waves.proofs.take_part.Statement.{statement}
 use Rattle.waves.proofs.take_part.Tie as tie
 
 abbrev Inv-loop : tie.InvT-loop
-Inv-loop part line₀ out₀ next₀ from₀ at₀ t10 line out next from at =
+Inv-loop part line₀ out₀ next₀ from₀ at₀ t10 t11 line out next from at =
     (from ≤ length part) × (length line ≡ length line₀) × (length out ≡ length out₀)
 
 abbrev μ-loop : tie.MeasureT-loop
-μ-loop part line₀ out₀ next₀ from₀ at₀ t10 line out next from at = length part - from
+μ-loop part line₀ out₀ next₀ from₀ at₀ t10 t11 line out next from at = length part - from
 
 loop-holds : tie.Need-loop-holds Inv-loop μ-loop
 loop-holds c = search needs
+
+slice-aggregate-room-at : tie.Need-slice-aggregate-room-at Inv-loop μ-loop
+slice-aggregate-room-at c = search needs
 
 room-at-requires : tie.Need-room-at-requires Inv-loop μ-loop
 room-at-requires c κs = search needs
@@ -35,11 +38,11 @@ take-at-requires c κs = search needs
 
 same-length-3 : tie.Need-same-length-3 Inv-loop μ-loop
 same-length-3 c =
-    let t = c .before .before .before .before .before .before in t .take-at .kept .1 .1 .1 .0 ∙ t .before .before .before .before .before .before .before .before .loop .inv .1
+    let t = c .before .before .before .before .before .before .before in t .take-at .kept .1 .1 .1 .0 ∙ t .before .before .before .before .before .before .before .before .before .loop .inv .1
 
 same-length-4 : tie.Need-same-length-4 Inv-loop μ-loop
 same-length-4 c =
-    let t = c .before .before .before .before .before .before in t .take-at .kept .1 .1 .1 .1 .0 ∙ t .before .before .before .before .before .before .before .before .loop .inv .2
+    let t = c .before .before .before .before .before .before .before in t .take-at .kept .1 .1 .1 .1 .0 ∙ t .before .before .before .before .before .before .before .before .before .loop .inv .2
 
 returns-2 : tie.Need-returns-2 Inv-loop μ-loop
 returns-2 c = search needs
@@ -47,21 +50,21 @@ returns-2 c = search needs
 add-from : tie.Need-add-from Inv-loop μ-loop
 add-from c =
     let t = c .before .before .before .before .before .before .before .before in
-    record { fits = omega (arith, t .take-at .ensures .0, t .before .before .before .before .before .before .before .before .before .before .before .before .good .1 .0 .0) }
+    record { fits = omega (arith, t .take-at .ensures .0, t .before .before .before .before .before .before .before .before .before .before .before .before .before .good .1 .0 .0) }
 
 add-at : tie.Need-add-at Inv-loop μ-loop
 add-at c =
     let t = c .before .before .before .before .before .before .before .before .before .before in
-    record { fits = omega (arith, t .take-at .ensures .1, t .before .before .before .before .before .before .before .before .loop .inv .2, t .before .before .before .before .before .before .before .before .before .before .before .before .good .1 .1 .1 .0 .0) }
+    record { fits = omega (arith, t .take-at .ensures .1, t .before .before .before .before .before .before .before .before .before .loop .inv .2, t .before .before .before .before .before .before .before .before .before .before .before .before .before .good .1 .1 .1 .0 .0) }
 
 loop-less : tie.Need-loop-less Inv-loop μ-loop
 loop-less c =
-    let t = c .before .before .before .before .before .before .before .before .before .before in omega (arith, t .take-at .ensures .0, c .before .before .before .before .if2 .left)
+    let t = c .before .before .before .before .before .before .before .before .before .before in omega (arith, t .take-at .ensures .0, c .before .before .before .if2 .left)
 
 loop-again : tie.Need-loop-again Inv-loop μ-loop
 loop-again c =
     let t = c .before .before .before .before .before .before .before .before .before .before in
-    let l = t .before .before .before .before .before .before .before .before .loop in
+    let l = t .before .before .before .before .before .before .before .before .before .loop in
     (t .take-at .ensures .0, t .take-at .kept .1 .1 .1 .0 ∙ l .inv .1, t .take-at .kept .1 .1 .1 .1 .0 ∙ l .inv .2)
 
 slice-aggregate-put : tie.Need-slice-aggregate-put Inv-loop μ-loop
@@ -86,6 +89,7 @@ take-part-spec =
     Inv-loop
     μ-loop
     loop-holds
+    slice-aggregate-room-at
     room-at-requires
     same-length
     same-length-2
