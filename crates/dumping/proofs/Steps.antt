@@ -11,7 +11,7 @@ use lib.ListN.{length}
 use Rattle.common.specs.Lowest.{lowest}
 use Rattle.controller.specs.declared.State.{State}
 use Rattle.controller.specs.Stages.{elapsedOf, agesStage, voteStage, monitorsStage, sequenceStage, ordersStage, accepted}
-use Rattle.controller.specs.Steps.{limit, someOverOne, refusalOf, stepOf}
+use Rattle.controller.specs.Steps.{limit, someOverOne, refusalOf, refusalAt, stepOf, stepAt}
 
 -- Where numbered tests give 0, none of them holds.
 abbrev NoneHolds : List Bool → Type 0
@@ -30,7 +30,7 @@ pub record InTime (elapsed : ℕ) : Type 0 where
 
 -- A stamp that is not refused is so much later,
 in-time : (s : State) (stamp : ℕ) (bytes : List ℕ) → refusalOf s stamp bytes ≡ 0 → InTime (elapsedOf (s .stamp) stamp)
-unfolding refusalOf
+unfolding refusalAt
 in-time s stamp bytes e =
     let elapsed = elapsedOf (s .stamp) stamp in
     let none =
@@ -41,11 +41,11 @@ in-time s stamp bytes e =
 -- and the state after it bears it.
 pub accepted-in-time : (s : State) (stamp : ℕ) (bytes : List ℕ) → stepOf s stamp bytes .refusal ≡ 0
     → InTime (elapsedOf (s .stamp) (accepted s stamp bytes .stamp))
-unfolding stepOf agesStage voteStage monitorsStage sequenceStage ordersStage accepted
+unfolding stepAt agesStage voteStage monitorsStage sequenceStage ordersStage accepted
 accepted-in-time s stamp bytes e = in-time s stamp bytes e
 
 -- A step that is not refused is answered by the accepted step.
 pub step-taken : (s : State) (stamp : ℕ) (bytes : List ℕ) → stepOf s stamp bytes .refusal ≡ 0
     → stepOf s stamp bytes ≡ record { refusal = 0; state = accepted s stamp bytes }
-unfolding stepOf
+unfolding stepAt
 step-taken s stamp bytes e = rw e
