@@ -3,20 +3,19 @@
 use crate::files;
 use crate::images;
 use crate::parts;
-use lesson::Lesson;
 use output::Written;
+use reading::Run;
 
-// What a run comes to: whether its rows were as stored, and how many bytes its image has.
+// What a trace comes to: whether its rows were as stored, and the run after it.
 struct Left {
     same: bool,
-    image: usize,
+    run: Run,
 }
 
 // Whether the rows of a case are as stored.
 pub fn case(name: &[u8], onward: bool) -> bool {
-    let mut image = [0u8; 204];
-    let large = run(name, onward, false, &mut image);
-    let small = run(name, onward, true, &mut image);
+    let large = run(name, onward, false);
+    let small = run(name, onward, true);
     large.same & small.same & files::both(name, b".in", b".out")
 }
 
@@ -27,45 +26,58 @@ pub fn saved(name: &[u8]) -> bool {
 
 // Whether they are in parts of one length.
 fn saves(name: &[u8], small: bool) -> bool {
+    let left = run(name, false, small);
+    let last = left.run;
+    left.same & leaves(last, name)
+}
+
+// Whether the image of the last state is as stored.
+fn leaves(run: Run, name: &[u8]) -> bool {
     let mut image = [0u8; 204];
     let mut stored = [0u8; 205];
-    let left = run(name, false, small, &mut image);
+    let saved = handing::save_last(run, &mut image);
     let n = files::read(name, b".img", &mut stored);
-    left.same & parts::is_all(&stored[..n], &image, left.image)
+    parts::is_all(&stored[..n], &image, saved.written)
 }
 
 // Runs the trace of a case.
-fn run(name: &[u8], onward: bool, small: bool, image: &mut [u8]) -> Left {
+fn run(name: &[u8], onward: bool, small: bool) -> Left {
     let mut trace = files::room();
     let mut stored = files::room();
     let n = files::read(name, b".in", &mut trace);
     let m = files::read(name, b".out", &mut stored);
-    runs(start(name, onward), &trace[..n], small, &stored[..m], image)
+    runs(start(name, onward), &trace[..n], small, &stored[..m])
 }
 
 // The run at its start.
-fn start(name: &[u8], onward: bool) -> Lesson {
+fn start(name: &[u8], onward: bool) -> Run {
     if onward {
-        return Lesson::from(images::start(name));
+        return Run::from(images::start(name));
     }
-    Lesson::new()
+    Run::new()
 }
 
 // A whole trace.
-fn runs(start: Lesson, trace: &[u8], small: bool, stored: &[u8], image: &mut [u8]) -> Left {
+fn runs(start: Run, trace: &[u8], small: bool, stored: &[u8]) -> Left {
     let mut line = [0u8; 512];
-    let mut out = files::room();
-    let mut lesson = start;
+    let mut out = [0u8; 64];
+    let mut run = start;
     let mut at = header(stored);
     let mut from = 0;
     while from < trace.len() {
         let end = parts::end(from, small, trace.len());
-        let took = lesson.take(&trace[from..end], &mut line, &mut out);
+        let took = lesson::take(run, &trace[from..end], &mut line, &mut out);
         at = parts::stored_to(stored, at, &out, took.written);
-        lesson = took.lesson;
-        from = parts::after(from, end - from, trace.len());
+        run = took.run;
+        from = parts::after(from, took.used, trace.len());
     }
-    ends(lesson, &mut line, stored, at, image)
+    let last = lesson::finish(run, &mut line, &mut out);
+    at = parts::stored_to(stored, at, &out, last.written);
+    let left = last.run;
+    Left {
+        same: at == stored.len(),
+        run: left,
+    }
 }
 
 // The header of what is stored.
@@ -75,17 +87,5 @@ fn header(stored: &[u8]) -> usize {
     match header {
         Written::Bytes(n) => parts::stored_to(stored, 0, &out, n),
         Written::NoRoom => parts::NOWHERE,
-    }
-}
-
-// The end of the trace: what is still to be written must be all that is left.
-fn ends(lesson: Lesson, line: &mut [u8], stored: &[u8], at: usize, image: &mut [u8]) -> Left {
-    let mut out = io::buffer();
-    let took = lesson.finish(line, &mut out);
-    let end = parts::stored_to(stored, at, &out, took.written);
-    let saved = handing::save_last(took.lesson, image);
-    Left {
-        same: (took.refusal == 0) & (end == stored.len()) & (saved.refusal == 0),
-        image: saved.written,
     }
 }

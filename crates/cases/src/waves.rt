@@ -31,12 +31,7 @@ fn runs(trace: &[u8], small: bool, stored: &[u8]) -> bool {
         waves = took.waves;
         from = parts::after(from, took.used, trace.len());
     }
-    (from == trace.len()) & ends(waves, &mut line, stored, at)
-}
-
-// The end of the trace: what is still to be written must be all that is left.
-fn ends(waves: Waves, line: &mut [u8], stored: &[u8], at: usize) -> bool {
-    let mut out = io::buffer();
-    let took = waves.finish(line, &mut out);
-    (took.refusal == 0) & (parts::stored_to(stored, at, &out, took.written) == stored.len())
+    let last = waves.finish(&mut line, &mut out);
+    at = parts::stored_to(stored, at, &out, last.written);
+    (from == trace.len()) & (at == stored.len())
 }

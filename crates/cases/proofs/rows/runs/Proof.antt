@@ -8,13 +8,10 @@ use Rattle.cases.proofs.rows.runs.Statement.{statement}
 use Rattle.cases.proofs.rows.runs.Tie as tie
 
 abbrev Inv-loop : tie.InvT-loop
-Inv-loop trace small stored image line₀ out₀ lesson₀ at₀ from₀ line out lesson at from = (length line ≡ 512) × (length out ≡ 327680)
+Inv-loop trace small stored line₀ out₀ run₀ at₀ from₀ line out run at from = (length line ≡ 512) × (length out ≡ 64)
 
 abbrev μ-loop : tie.MeasureT-loop
-μ-loop trace small stored image line₀ out₀ lesson₀ at₀ from₀ line out lesson at from = length trace - from
-
-room-requires : tie.Need-room-requires Inv-loop μ-loop
-room-requires c κs = search needs
+μ-loop trace small stored line₀ out₀ run₀ at₀ from₀ line out run at from = length trace - from
 
 header-requires : tie.Need-header-requires Inv-loop μ-loop
 header-requires c κs = search needs
@@ -49,9 +46,6 @@ slice-aggregate-stored-to c = search needs
 stored-to-requires : tie.Need-stored-to-requires Inv-loop μ-loop
 stored-to-requires c κs = search needs
 
-sub-after : tie.Need-sub-after Inv-loop μ-loop
-sub-after c = search needs
-
 after-requires : tie.Need-after-requires Inv-loop μ-loop
 after-requires c κs = search needs
 
@@ -61,14 +55,20 @@ loop-less c = search needs
 loop-again : tie.Need-loop-again Inv-loop μ-loop
 loop-again c = search needs
 
-slice-aggregate-ends : tie.Need-slice-aggregate-ends Inv-loop μ-loop
-slice-aggregate-ends c = search needs
+slice-aggregate-finish : tie.Need-slice-aggregate-finish Inv-loop μ-loop
+slice-aggregate-finish c = search needs
 
-ends-requires : tie.Need-ends-requires Inv-loop μ-loop
-ends-requires c κs = search needs
+slice-aggregate-finish-2 : tie.Need-slice-aggregate-finish-2 Inv-loop μ-loop
+slice-aggregate-finish-2 c = search needs
 
-same-length : tie.Need-same-length Inv-loop μ-loop
-same-length c = search needs
+finish-requires : tie.Need-finish-requires Inv-loop μ-loop
+finish-requires c κs = search needs
+
+slice-aggregate-stored-to-2 : tie.Need-slice-aggregate-stored-to-2 Inv-loop μ-loop
+slice-aggregate-stored-to-2 c = search needs
+
+stored-to-requires-2 : tie.Need-stored-to-requires-2 Inv-loop μ-loop
+stored-to-requires-2 c κs = search needs
 
 returns : tie.Need-returns Inv-loop μ-loop
 returns c = search needs
@@ -79,7 +79,6 @@ runs-spec =
     (tie.spec
     Inv-loop
     μ-loop
-    room-requires
     header-requires
     loop-holds
     end-requires
@@ -91,11 +90,12 @@ runs-spec =
     take-requires
     slice-aggregate-stored-to
     stored-to-requires
-    sub-after
     after-requires
     loop-less
     loop-again
-    slice-aggregate-ends
-    ends-requires
-    same-length
+    slice-aggregate-finish
+    slice-aggregate-finish-2
+    finish-requires
+    slice-aggregate-stored-to-2
+    stored-to-requires-2
     returns)

@@ -58,11 +58,20 @@ loop-less c = search needs
 loop-again : tie.Need-loop-again Inv-loop μ-loop
 loop-again c = search needs
 
-slice-aggregate-ends : tie.Need-slice-aggregate-ends Inv-loop μ-loop
-slice-aggregate-ends c = search needs
+slice-aggregate-finish : tie.Need-slice-aggregate-finish Inv-loop μ-loop
+slice-aggregate-finish c = search needs
 
-ends-requires : tie.Need-ends-requires Inv-loop μ-loop
-ends-requires c κs = search needs
+slice-aggregate-finish-2 : tie.Need-slice-aggregate-finish-2 Inv-loop μ-loop
+slice-aggregate-finish-2 c = search needs
+
+finish-requires : tie.Need-finish-requires Inv-loop μ-loop
+finish-requires c κs = search needs
+
+slice-aggregate-stored-to-2 : tie.Need-slice-aggregate-stored-to-2 Inv-loop μ-loop
+slice-aggregate-stored-to-2 c = search needs
+
+stored-to-requires-2 : tie.Need-stored-to-requires-2 Inv-loop μ-loop
+stored-to-requires-2 c κs = search needs
 
 returns : tie.Need-returns Inv-loop μ-loop
 returns c = search needs
@@ -88,6 +97,9 @@ runs-spec =
     after-requires
     loop-less
     loop-again
-    slice-aggregate-ends
-    ends-requires
+    slice-aggregate-finish
+    slice-aggregate-finish-2
+    finish-requires
+    slice-aggregate-stored-to-2
+    stored-to-requires-2
     returns)
