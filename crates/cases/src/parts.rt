@@ -6,7 +6,7 @@ ghost use Rattle.io.specs.Counts.{Counts};
 pub const NOWHERE: usize = usize::MAX;
 
 // Where the part ends that a place of n bytes is in.
-pub fn end(from: usize, small: bool, n: usize) -> usize
+pub(crate) fn end(from: usize, small: bool, n: usize) -> usize
     requires { ⌜ from < n ⌝ }
     ensures { λ r. ⌜ (from ≤ r) × (r ≤ n) ⌝ }
 {
@@ -18,7 +18,7 @@ pub fn end(from: usize, small: bool, n: usize) -> usize
 }
 
 // Where it goes on when so many bytes were used: some, and no more than there are.
-pub fn after(from: usize, used: usize, n: usize) -> usize
+pub(crate) fn after(from: usize, used: usize, n: usize) -> usize
     requires { ⌜ from < n ⌝ }
     ensures { λ r. ⌜ from < r ⌝ }
 {
