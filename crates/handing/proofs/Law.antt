@@ -10,7 +10,6 @@ use Rattle.lines.proofs.Steps.{either}
 use Rattle.image.specs.Images.{size, saveOf}
 use Rattle.reading.specs.Rows.{hasStarted}
 use Rattle.reading.specs.declared.Run.{Run}
-use Rattle.lesson.specs.Parts.{room}
 use Rattle.handing.specs.Handing.{saveLastOf}
 use Rattle.handing.proofs.Saving.{with-row-0, without-row-0}
 
