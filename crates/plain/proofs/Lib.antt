@@ -1,5 +1,4 @@
-pub mod Groups
 pub mod Once
 pub mod Sensors
-pub mod Table
+pub mod Sizes
 pub mod Worked

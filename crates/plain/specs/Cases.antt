@@ -3,7 +3,7 @@
 use Prim.Native.Nat.{ℕ}
 use Prim.Native.String.{String}
 use mathlib.Core.List.{List, [], _∷_, _++_}
-use Rattle.common.specs.Ascii.{ascii}
+use Rattle.common.specs.Ascii.{ascii, lf}
 use Rattle.common.specs.Case.{Case}
 use Rattle.controller.specs.Start.{freshOf}
 use Rattle.plain.specs.Plain.{plainOf}
@@ -11,7 +11,7 @@ use Rattle.plain.specs.Plain.{plainOf}
 -- Lines, each with its LF.
 unfoldable pub linesOf : List String → List ℕ
 linesOf [] = []
-linesOf (text ∷ texts) = ascii text ++ 10 ∷ linesOf texts
+linesOf (text ∷ texts) = ascii text ++ lf ∷ linesOf texts
 
 -- A fresh start at 1,000.
 unfoldable pub freshLines : List String

@@ -1,12 +1,11 @@
 // A controller in plain words (request K3): what an image holds, item by item, for a person to read.
-// The rule is specs/: Words.antt (the words) and Plain.antt (the lines). The text is put together in an array of its own and then
-// handed to the lent line if there is room for it.
+// The rule is specs/Plain.antt. The text is put together in an array of its own, piece by piece, and then handed to the lent line if
+// there is room for it.
 ghost use mathlib.Core.Path.{_≡_};
 ghost use Rattle.texts.specs.Puts.{putOf};
 ghost use Rattle.plain.specs.Plain.{plainOf};
 
 mod lines;
-mod words;
 
 use controller::State;
 
@@ -14,7 +13,7 @@ use controller::State;
 pub fn put(line: &mut [u8], at: usize, state: State) -> usize
     ensures { λ r. ⌜ (r, now (line .exit)) ≡ putOf (now (line .entry)) at (plainOf state) ⌝ }
 {
-    let mut text = [0u8; 1589];
+    let mut text = [0u8; 1375];
     let end = lines::put_all(&mut text, state);
     texts::put(line, at, &text[..end])
 }

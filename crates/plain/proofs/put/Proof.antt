@@ -1,12 +1,22 @@
--- `plain::put` meets its contract: the text is handed over.
+-- `plain::put` meets its contract: all lines have room in the array, and are handed over.
 -- Assumes nothing.
+use Prim.Native.Nat.{ℕ, _+_, _≤_}
 use native.Mathlib.Omega.{arith}
-use mathlib.Core.Path.{ap, _∙_}
-use lib.ListN.{length-take}
-use Rattle.texts.specs.Puts.{putOf}
+use mathlib.Core.List.{List, flatten}
+use mathlib.Core.Path.{refl, ap, _∙_}
+use lib.ListN.{length, replicate, length-take}
+use Rattle.texts.specs.Chains.{Chain}
+use Rattle.texts.specs.Puts.{Put, putOf}
+use Rattle.texts.proofs.Chains.{chained}
+use Rattle.plain.specs.Plain.{plainOf}
 use borrow.Author.Needs.{needs}
 use Rattle.plain.proofs.put.Statement.{statement}
 use Rattle.plain.proofs.put.Tie as tie
+
+-- All lines stand in the array, and nothing else that is handed over.
+filled : {pieces : List (List ℕ)} {after : List ℕ} {last : ℕ} → (length (flatten pieces) ≤ 1375) × Chain (replicate 1375 0) 0 pieces after last
+    → (last ≤ 0 + 1375) × Put (replicate 1375 0) 0 (flatten pieces) after last
+filled all = chained (all .1) 1375 refl (all .0) (omega arith)
 
 slice-aggregate-put-all : tie.Need-slice-aggregate-put-all
 slice-aggregate-put-all c = search needs
@@ -15,10 +25,10 @@ put-all-requires : tie.Need-put-all-requires
 put-all-requires c κs = search needs
 
 array-share-prefix-text : tie.Need-array-share-prefix-text
-array-share-prefix-text c = search needs
+array-share-prefix-text c = let all = c .before .before in omega (arith, filled (all .put-all .ensures) .0)
 
 slice-aggregate-put : tie.Need-slice-aggregate-put
-slice-aggregate-put c = simp length-take (omega arith)
+slice-aggregate-put c = let all = c .before .before .before in simp length-take (omega (arith, filled (all .put-all .ensures) .0))
 
 put-requires : tie.Need-put-requires
 put-requires c κs = search needs
@@ -27,11 +37,12 @@ same-length : tie.Need-same-length
 same-length c = search needs
 
 returns : tie.Need-returns
+unfolding plainOf
 returns c =
-    let put = c .before .before in
-    let all = put .before .before .before .before in
+    let handed = c .before .before in
+    let all = handed .before .before .before .before in
     let a = all .before .before .before .args in
-    put .put .ensures ∙ ap (putOf (a .line .now) (a .at)) (all .put-all .ensures .1 .text)
+    handed .put .ensures ∙ ap (putOf (a .line .now) (a .at)) (filled (all .put-all .ensures) .1 .text)
 
 pub put-spec : {M : Type 1} → statement M
 put-spec =

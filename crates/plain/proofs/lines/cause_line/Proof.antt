@@ -1,53 +1,52 @@
--- `plain::lines::cause_line` meets its contract: a cause has its word, and another number is written as it is.
+-- `plain::lines::cause_line` meets its contract: name, colon, word and LF.
 -- Assumes nothing.
-use native.Mathlib.Omega.{arith}
-use mathlib.Core.Path.{ap}
-use Rattle.texts.proofs.Placing.{same-piece}
-use Rattle.plain.specs.Plain.{line}
-use Rattle.plain.proofs.Groups.{with-word, without-word}
+use Rattle.texts.specs.Chains.{put, done}
 use borrow.Author.Needs.{needs}
 use Rattle.plain.proofs.lines.cause_line.Statement.{statement}
 use Rattle.plain.proofs.lines.cause_line.Tie as tie
 
-add-word-line : tie.Need-add-word-line
-add-word-line c = search needs
+slice-aggregate-put : tie.Need-slice-aggregate-put
+slice-aggregate-put c = search needs
 
-word-line-requires : tie.Need-word-line-requires
-word-line-requires c κs = search needs
+put-requires : tie.Need-put-requires
+put-requires c κs = search needs
+
+slice-aggregate-put-2 : tie.Need-slice-aggregate-put-2
+slice-aggregate-put-2 c = search needs
+
+put-requires-2 : tie.Need-put-requires-2
+put-requires-2 c κs = search needs
+
+put-cause-requires : tie.Need-put-cause-requires
+put-cause-requires c κs = search needs
+
+slice-aggregate-put-3 : tie.Need-slice-aggregate-put-3
+slice-aggregate-put-3 c = search needs
+
+put-requires-3 : tie.Need-put-requires-3
+put-requires-3 c κs = search needs
 
 same-length : tie.Need-same-length
 same-length c = search needs
 
 returns : tie.Need-returns
 returns c =
-    let put = c .before .before in
-    let test = put .before .before in (
-      omega arith,
-      same-piece (ap (line 27) (with-word (test .before .before .args .cause) (test .if1 .taken))) (put .word-line .ensures .1),
-    )
-
-number-line-requires : tie.Need-number-line-requires
-number-line-requires c κs = search needs
-
-same-length-2 : tie.Need-same-length-2
-same-length-2 c = search needs
-
-returns-2 : tie.Need-returns-2
-returns-2 c =
-    let put = c .before .before in
-    let test = put .before .before in (
-      omega arith,
-      same-piece (ap (line 27) (without-word (test .before .before .args .cause) (test .if1 .left))) (put .number-line .ensures .1),
-    )
+    let end = c .before .before in
+    let said = end .before .before .before .before .before in
+    let told = said .before .before .before .before in
+    let name = told .before .before .before .before .before in
+    put (name .put .ensures) (put (told .put2 .ensures) (put (said .put-cause .ensures) (put (end .put3 .ensures) done)))
 
 pub cause-line-spec : {M : Type 1} → statement M
 cause-line-spec =
     tie.close
     (tie.spec
-    add-word-line
-    word-line-requires
+    slice-aggregate-put
+    put-requires
+    slice-aggregate-put-2
+    put-requires-2
+    put-cause-requires
+    slice-aggregate-put-3
+    put-requires-3
     same-length
-    returns
-    number-line-requires
-    same-length-2
-    returns-2)
+    returns)

@@ -1,7 +1,7 @@
--- `plain::lines::put_orders` meets its contract: one line after the other.
+-- `plain::lines::put_orders` meets its contract: the five orders, each by its name.
 -- Assumes nothing.
-use native.Mathlib.Omega.{arith}
-use Rattle.texts.proofs.Placing.{then}
+use Rattle.texts.proofs.Chains.{and-then}
+use Rattle.names.specs.Words.{orderNames}
 use Rattle.plain.specs.Plain.{orderLines}
 use borrow.Author.Needs.{needs}
 use Rattle.plain.proofs.lines.put_orders.Statement.{statement}
@@ -26,20 +26,14 @@ same-length : tie.Need-same-length
 same-length c = search needs
 
 returns : tie.Need-returns
-unfolding orderLines
+unfolding orderLines orderNames
 returns c =
-    let five = c .before .before in
-    let four = five .before .before .before .before in
-    let three = four .before .before .before .before in
-    let two = three .before .before .before .before in
-    let one = two .before .before .before .before in (
-      omega arith,
-      then
-          (then
-          (then (then (one .order-line .ensures .1) (two .order-line2 .ensures .1)) (three .order-line3 .ensures .1))
-          (four .order-line4 .ensures .1))
-          (five .order-line5 .ensures .1),
-    )
+    let extends = c .before .before in
+    let retracts = extends .before .before .before .before in
+    let opens = retracts .before .before .before .before in
+    let closes = opens .before .before .before .before in
+    let general = closes .before .before .before .before in
+    and-then (and-then (and-then (and-then (general .order-line .ensures) (closes .order-line2 .ensures)) (opens .order-line3 .ensures)) (retracts .order-line4 .ensures)) (extends .order-line5 .ensures)
 
 pub put-orders-spec : {M : Type 1} → statement M
 put-orders-spec =

@@ -1,37 +1,37 @@
 -- `plain::lines::put_sensors` meets its contract: after i turns the lines of the first i sensors stand there.
 -- Assumes nothing.
-use Prim.Native.Nat.{_+_, _-_, _*_, _≤_}
+use Prim.Native.Nat.{ℕ, _-_, _≤_}
 use native.Mathlib.Omega.{arith}
-use mathlib.Core.Path.{_≡_, refl, ap, _∙_}
+use mathlib.Core.List.{List}
+use mathlib.Core.Path.{_≡_, refl, subst}
 use lib.ListN.{length, take}
 use lib.Seq.{take-all}
-use Rattle.texts.specs.Puts.{Put}
-use Rattle.texts.proofs.Placing.{then, same-piece, put-nothing}
+use Rattle.voter.specs.declared.Voter.{Voter}
+use Rattle.texts.specs.Chains.{Chain, done}
+use Rattle.texts.proofs.Chains.{and-then}
 use Rattle.plain.specs.Plain.{sensorLines}
 use Rattle.plain.proofs.Sensors.{sensor-turn}
+use Rattle.plain.proofs.Sizes.{sensors-length}
 use borrow.Author.Needs.{needs}
 use Rattle.plain.proofs.lines.put_sensors.Statement.{statement}
 use Rattle.plain.proofs.lines.put_sensors.Tie as tie
 
 abbrev Inv-loop : tie.InvT-loop
 Inv-loop text₀ at voters next₀ i₀ text next i =
-    (i ≤ 18) × (next ≤ at + 54 * i) × (length text ≡ length text₀) × Put text₀ at (sensorLines 1 (take i voters)) text next
+    (i ≤ 18) × (length text ≡ length text₀) × Chain text₀ at (sensorLines 0 (take i voters)) text next
 
 abbrev μ-loop : tie.MeasureT-loop
 μ-loop text₀ at voters next₀ i₀ text next i = 18 - i
 
 loop-holds : tie.Need-loop-holds Inv-loop μ-loop
 unfolding sensorLines
-loop-holds c = (omega arith, omega arith, refl, put-nothing (c .before .args .text .now) (c .before .args .at))
+loop-holds c = (omega arith, refl, done)
 
 mul-v : tie.Need-mul-v Inv-loop μ-loop
 mul-v c = search needs
 
 array-copy-out-v : tie.Need-array-copy-out-v Inv-loop μ-loop
 array-copy-out-v c = search needs
-
-add-sensor-line : tie.Need-add-sensor-line Inv-loop μ-loop
-add-sensor-line c = search needs
 
 sensor-line-requires : tie.Need-sensor-line-requires Inv-loop μ-loop
 sensor-line-requires c κs = search needs
@@ -49,9 +49,9 @@ loop-again c =
     let a = put .before .before .before .before .before .before .args in
     let long : length (a .t3) ≡ 18 = search needs in (
       omega arith,
-      omega (arith, put .sensor-line .ensures .0, l .inv .1),
-      put .sensor-line .ensures .1 .size ∙ l .inv .2,
-      same-piece (sensor-turn (l .i) (a .t3) _ (omega (arith, long))) (then (l .inv .3) (put .sensor-line .ensures .1)),
+      search needs,
+      subst (λ (pieces : List (List ℕ)). Chain (a .text .now) (a .at) pieces (put .sensor-line .last .0) (put .sensor-line .result)) (sensor-turn (l .i) (a .t3) _ (omega (arith, long)))
+          (and-then (l .inv .2) (put .sensor-line .ensures)),
     )
 
 same-length : tie.Need-same-length Inv-loop μ-loop
@@ -62,8 +62,8 @@ returns c =
     let l = c .before .loop in
     let a = c .before .before .before .args in
     let long : length (a .t3) ≡ 18 = search needs in (
-      omega (arith, l .inv .1),
-      same-piece (ap (sensorLines 1) (take-all (l .i) (a .t3) (omega (arith, long)))) (l .inv .3),
+      omega (arith, long, sensors-length 0 (a .t3)),
+      subst (λ (vs : List Voter). Chain (a .text .now) (a .at) (sensorLines 0 vs) (l .text) (l .next)) (take-all (l .i) (a .t3) (omega (arith, long))) (l .inv .2),
     )
 
 pub put-sensors-spec : {M : Type 1} → statement M
@@ -75,7 +75,6 @@ put-sensors-spec =
     loop-holds
     mul-v
     array-copy-out-v
-    add-sensor-line
     sensor-line-requires
     add-i
     loop-less
