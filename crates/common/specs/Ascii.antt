@@ -25,6 +25,11 @@ lf = 10
 abbrev pub crlf : List ℕ
 crlf = cr ∷ lf ∷ []
 
+-- Rows, each with its CRLF.
+unfoldable pub ended : List (List ℕ) → List ℕ
+ended [] = []
+ended (row ∷ rows) = row ++ crlf ++ ended rows
+
 -- The fields with a comma between each two: the text that they are the fields of.
 unfoldable pub joinedByCommas : List (List ℕ) → List ℕ
 joinedByCommas [] = []

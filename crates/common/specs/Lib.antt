@@ -5,5 +5,4 @@ pub mod Case
 pub mod Decimal
 pub mod Lists
 pub mod Lowest
-pub mod Names
 pub mod OneAnswer

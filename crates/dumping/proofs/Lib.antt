@@ -7,3 +7,4 @@ pub mod Taking
 pub mod Telling
 pub mod Turns
 pub mod Whole
+pub mod Worked

@@ -1,7 +1,7 @@
 -- The worked traces are saved as they should be: the rules compute.
 -- Assumes nothing.
 use mathlib.Core.Path.{refl}
-use Rattle.common.specs.Ascii.{joinedByCommas}
+use Rattle.common.specs.Ascii.{ended, joinedByCommas}
 use Rattle.common.specs.Case.{AllAsWanted}
 use Rattle.voter.specs.Numbers.{numberOf}
 use Rattle.voter.specs.Items.{sensorItems}
@@ -17,7 +17,7 @@ use Rattle.names.specs.Words.{sensorNames}
 use Rattle.trace.specs.Header.{headerNames, headerText, sameText}
 use Rattle.reading.specs.Rows.{endsAt, headerRow, answerTo, shownRow, noSample, traceRow, rowOf, endOf}
 use Rattle.reading.specs.Whole.{readTo}
-use Rattle.lesson.specs.Cases.{ended, trace, rowsOfS}
+use Rattle.reading.specs.SessionS.{traceOf, rowsOfS}
 use Rattle.handing.specs.Handing.{imageLeft, savedOf}
 use Rattle.handing.specs.Cases.{imageOfS, saves, handingCases}
 
@@ -27,6 +27,6 @@ unfolding
     numberOf fourBytes bytesOf sensorItems sensorsItems orderItems ordersItems restItems coreItems itemsOf imageOf
     before rowsOf digitsFrom numberIn tripleOf fieldsOf triplesOf formOf inTurn readRow headerNames sensorNames headerText sameText joinedByCommas
     endsAt headerRow answerTo shownRow noSample traceRow rowOf endOf readTo
-    ended trace rowsOfS
+    ended traceOf rowsOfS
     imageLeft savedOf imageOfS saves handingCases
 as-worked = refl

@@ -9,7 +9,7 @@ use Rattle.common.specs.Ascii.{ascii}
 use Rattle.common.specs.Case.{Case}
 use Rattle.controller.specs.Start.{freshOf}
 use Rattle.image.specs.Xdr.{bytesOf}
-use Rattle.lesson.specs.Cases.{trace, rowsOfS}
+use Rattle.reading.specs.SessionS.{traceOf, rowsOfS}
 use Rattle.handing.specs.Handing.{savedOf}
 
 -- The image that Session S leaves behind row 4.
@@ -48,9 +48,9 @@ saves name input wanted = record { name = name; gives = savedOf (freshOf 0) inpu
 
 unfoldable pub handingCases : List Case
 handingCases =
-    saves "Session S up to row 4" (trace (take 5 rowsOfS)) imageOfS
-    ∷ saves "the next row is torn" (trace (take 5 rowsOfS) ++ ascii "5,13") imageOfS
-    ∷ saves "row 0 is torn" (trace [] ++ ascii "0,1000,111,0") []
-    ∷ saves "the header alone" (trace []) []
+    saves "Session S up to row 4" (traceOf (take 5 rowsOfS)) imageOfS
+    ∷ saves "the next row is torn" (traceOf (take 5 rowsOfS) ++ ascii "5,13") imageOfS
+    ∷ saves "row 0 is torn" (traceOf [] ++ ascii "0,1000,111,0") []
+    ∷ saves "the header alone" (traceOf []) []
     ∷ saves "no header" [] []
     ∷ []

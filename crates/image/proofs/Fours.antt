@@ -4,7 +4,7 @@ use Prim.Native.Nat.{ℕ, suc, _+_, _*_, _-_, _/_, _%_, _^_, _<_, suc-le-suc}
 use native.Mathlib.Omega.{arith}
 use native.Mathlib.Nat.{mod-eq-of-lt}
 use mathlib.Core.List.{List, [], _∷_, map}
-use mathlib.Core.Path.{_≡_, refl, sym, _∙_}
+use mathlib.Core.Path.{_≡_, refl, sym}
 use lib.ListN.{length, drop}
 use Rattle.image.specs.Xdr.{fourBytes, itemFrom, bytesOf, itemsIn}
 use Rattle.image.specs.Conditions.{AllBelow, AllBytes}
@@ -67,10 +67,6 @@ each-below [] below = refl
 each-below (n ∷ items) below =
     let head : n % 2 ^ 32 ≡ n = mod-eq-of-lt (below 0 (omega arith)) in
     cc (head, each-below items (λ k h. below (suc k) (suc-le-suc h)))
-
--- .. and so as they were, where each is below 2^32.
-pub items-back-below : (items : List ℕ) → AllBelow (2 ^ 32) items → itemsIn (bytesOf items) ≡ items
-items-back-below items below = items-back items ∙ each-below items below
 
 -- Bytes come back, where their number is a multiple of four.
 pub bytes-back : (bytes : List ℕ) (n : ℕ) → length bytes ≡ 4 * n → AllBytes bytes → bytesOf (itemsIn bytes) ≡ bytes

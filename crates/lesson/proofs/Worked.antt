@@ -3,7 +3,7 @@
 -- Assumes nothing.
 use mathlib.Core.List.{_∷_}
 use mathlib.Core.Path.{refl}
-use Rattle.common.specs.Ascii.{joinedByCommas}
+use Rattle.common.specs.Ascii.{ended, joinedByCommas}
 use Rattle.common.specs.Case.{AllAsWanted}
 use Rattle.common.specs.Decimal.{decimal, decimalUpTo}
 use Rattle.controller.specs.Start.{startedAt}
@@ -17,8 +17,9 @@ use Rattle.output.specs.Rows.{headerText, rowText, refusalText}
 use Rattle.reading.specs.Rows.{endsAt, headerRow, answerTo, shownRow, noSample, traceRow, rowOf, endOf, nothingRead}
 use Rattle.reading.specs.Whole.{readTo}
 use Rattle.reading.specs.Runs.{inRows}
+use Rattle.reading.specs.SessionS.{traceOf, rowsOfS, sessionTrace}
 use Rattle.lesson.specs.Replay.{writtenOf, replayOf, resumedOf}
-use Rattle.lesson.specs.Cases.{ended, trace, output, replays, rowsOfS, sessionS, handedOver, early, afterTheLastLabel}
+use Rattle.lesson.specs.Cases.{output, replays, sessionS, handedOver, early, afterTheLastLabel}
 
 pub worked : AllAsWanted (sessionS ∷ handedOver ∷ afterTheLastLabel ∷ early)
 unfolding
@@ -26,5 +27,5 @@ unfolding
     before rowsOf digitsFrom numberOf tripleOf fieldsOf triplesOf formOf inTurn readRow headerNames sensorNames traceHeader sameText
     decimal decimalUpTo joinedByCommas orderNames lampNames headerText rowText refusalText
     endsAt headerRow answerTo shownRow noSample traceRow rowOf endOf nothingRead readTo inRows writtenOf replayOf resumedOf
-    ended trace output replays rowsOfS sessionS handedOver early afterTheLastLabel
+    ended traceOf rowsOfS sessionTrace output replays sessionS handedOver early afterTheLastLabel
 worked = refl

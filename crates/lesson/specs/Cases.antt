@@ -5,7 +5,7 @@ use mathlib.Core.List.{List, [], _∷_, _++_}
 use Prim.Native.Nat.{ℕ}
 use Prim.Native.String.{String}
 use lib.ListN.{take, drop, replicate}
-use Rattle.common.specs.Ascii.{ascii, crlf}
+use Rattle.common.specs.Ascii.{ascii, ended}
 use Rattle.common.specs.Case.{Case}
 use Rattle.lines.specs.Rows.{rowsOf}
 use Rattle.trace.specs.declared.Due.the-variants.{Label}
@@ -14,17 +14,9 @@ use Rattle.controller.specs.Start.{freshOf}
 use Rattle.output.specs.Rows.{headerText}
 use Rattle.reading.specs.declared.Phase.the-variants.{Rows}
 use Rattle.reading.specs.Rows.{nothingRead}
+use Rattle.reading.specs.SessionS.{traceOf, atRest, doorsOpen, rowsOfS, sessionTrace}
 use Rattle.reading.specs.Whole.{readTo}
 use Rattle.lesson.specs.Replay.{writtenOf, replayOf, resumedOf}
-
--- Rows that each end in CRLF.
-unfoldable pub ended : List (List ℕ) → List ℕ
-ended [] = []
-ended (row ∷ rows) = row ++ crlf ++ ended rows
-
--- A trace: its header, and rows that each end in CRLF.
-unfoldable pub trace : List (List ℕ) → List ℕ
-trace rows = ended (traceHeader ∷ rows)
 
 -- An output: its header, and rows that each end in CRLF.
 unfoldable pub output : List (List ℕ) → List ℕ
@@ -35,38 +27,9 @@ replays name input wanted = record { name = name; gives = replayOf input; wanted
 
 -- ---- Session S
 
--- The rest of a row of Session S by what changes in it: handle, gear_extended, door_closed, door_open.
-abbrev pub atRest : List ℕ
-atRest = ascii "111,000,111,111,111,000,000,000,000,000,000,111,111,111,000,000,000,000"
-
-abbrev pub handleUp : List ℕ
-handleUp = ascii "000,000,111,111,111,000,000,000,000,000,000,111,111,111,000,000,000,000"
-
-abbrev pub doorsOpen : List ℕ
-doorsOpen = ascii "000,000,111,111,111,000,000,000,000,000,000,000,000,000,111,111,111,000"
-
-abbrev pub gearsMoving : List ℕ
-gearsMoving = ascii "111,000,000,000,000,000,000,000,000,000,000,000,000,000,111,111,111,000"
-
-unfoldable pub rowsOfS : List (List ℕ)
-rowsOfS =
-    (ascii "0,1000," ++ atRest)
-    ∷ (ascii "1,1050," ++ atRest)
-    ∷ (ascii "2,1150," ++ handleUp)
-    ∷ (ascii "3,1250," ++ handleUp)
-    ∷ (ascii "4,1350," ++ handleUp)
-    ∷ (ascii "5,1350," ++ handleUp)
-    ∷ (ascii "6,1400," ++ doorsOpen)
-    ∷ (ascii "7,1450," ++ doorsOpen)
-    ∷ (ascii "8,1551," ++ doorsOpen)
-    ∷ (ascii "9,1550," ++ gearsMoving)
-    ∷ (ascii "10,1649," ++ gearsMoving)
-    ∷ (ascii "11,1650," ++ gearsMoving)
-    ∷ []
-
 unfoldable pub sessionS : Case
 sessionS =
-    replays "Session S" (trace rowsOfS)
+    replays "Session S" sessionTrace
     (output
     (ascii "0,0,0,0,0,0,0,CLOSED,EXTENDED,1,0,0"
     ∷ ascii "1,0,0,0,0,0,0,CLOSED,EXTENDED,1,0,0"
@@ -89,8 +52,8 @@ handedOver =
     record {
       name = "Session S, handed over behind row 4";
       gives =
-          resumedOf (readTo nothingRead (rowsOf (trace (take 5 rowsOfS))) .state)
-          (trace ((ascii "0,70000," ++ atRest) ∷ (ascii "1,70050," ++ doorsOpen) ∷ (ascii "2,70100," ++ doorsOpen) ∷ []));
+          resumedOf (readTo nothingRead (rowsOf (traceOf (take 5 rowsOfS))) .state)
+          (traceOf ((ascii "0,70000," ++ atRest) ∷ (ascii "1,70050," ++ doorsOpen) ∷ (ascii "2,70100," ++ doorsOpen) ∷ []));
       wanted =
           output
           (ascii "0,0,1,0,1,0,0,OPENING,EXTENDED,1,0,0"
@@ -111,18 +74,18 @@ shown0 = ascii "0,0,0,0,0,0,0,CLOSED,EXTENDED,1,0,0"
 unfoldable pub early : List Case
 early =
     replays "no header" [] (output (ascii "1,5,,,,,,,,,," ∷ []))
-    ∷ replays "a first row that is not the header" (ascii "Step" ++ drop 4 (trace [])) (output (ascii "1,5,,,,,,,,,," ∷ []))
+    ∷ replays "a first row that is not the header" (ascii "Step" ++ drop 4 (traceOf [])) (output (ascii "1,5,,,,,,,,,," ∷ []))
     ∷ replays "a first row of 513 bytes" (replicate 513 48) (output (ascii "1,6,,,,,,,,,," ∷ []))
     ∷ replays "the header alone, without its CRLF" traceHeader (output [])
-    ∷ replays "the first label is 1" (trace ((ascii "1,1000," ++ atRest) ∷ [])) (output (ascii "2,7,,,,,,,,,," ∷ []))
-    ∷ replays "a wrong label in a row that breaks the form" (trace (ascii "1,1000" ∷ row0 ∷ [])) (output (ascii "2,5,,,,,,,,,," ∷ []))
-    ∷ replays "a wrong label in a row of 513 bytes" (trace ((ascii "7," ++ replicate 511 48) ∷ [])) (output (ascii "2,6,,,,,,,,,," ∷ []))
-    ∷ replays "512 bytes and a lone CR" (trace (row0 ∷ (replicate 512 48 ++ 13 ∷ []) ∷ [])) (output (shown0 ∷ ascii "3,6,,,,,,,,,," ∷ []))
-    ∷ replays "an empty row at the end" (trace (row0 ∷ [] ∷ [])) (output (shown0 ∷ ascii "3,5,,,,,,,,,," ∷ []))
-    ∷ replays "a CR at the end" (trace [] ++ row0 ++ 13 ∷ []) (output (ascii "2,5,,,,,,,,,," ∷ []))
-    ∷ replays "a last row without its CRLF" (trace [] ++ row0) (output (shown0 ∷ []))
-    ∷ replays "a lone LF in front of a row" (trace ((10 ∷ row0) ∷ [])) (output (ascii "2,5,,,,,,,,,," ∷ []))
-    ∷ replays "a label of 4,294,967,296" (trace (row0 ∷ (ascii "4294967296,1050," ++ atRest) ∷ [])) (output (shown0 ∷ ascii "3,5,,,,,,,,,," ∷ []))
+    ∷ replays "the first label is 1" (traceOf ((ascii "1,1000," ++ atRest) ∷ [])) (output (ascii "2,7,,,,,,,,,," ∷ []))
+    ∷ replays "a wrong label in a row that breaks the form" (traceOf (ascii "1,1000" ∷ row0 ∷ [])) (output (ascii "2,5,,,,,,,,,," ∷ []))
+    ∷ replays "a wrong label in a row of 513 bytes" (traceOf ((ascii "7," ++ replicate 511 48) ∷ [])) (output (ascii "2,6,,,,,,,,,," ∷ []))
+    ∷ replays "512 bytes and a lone CR" (traceOf (row0 ∷ (replicate 512 48 ++ 13 ∷ []) ∷ [])) (output (shown0 ∷ ascii "3,6,,,,,,,,,," ∷ []))
+    ∷ replays "an empty row at the end" (traceOf (row0 ∷ [] ∷ [])) (output (shown0 ∷ ascii "3,5,,,,,,,,,," ∷ []))
+    ∷ replays "a CR at the end" (traceOf [] ++ row0 ++ 13 ∷ []) (output (ascii "2,5,,,,,,,,,," ∷ []))
+    ∷ replays "a last row without its CRLF" (traceOf [] ++ row0) (output (shown0 ∷ []))
+    ∷ replays "a lone LF in front of a row" (traceOf ((10 ∷ row0) ∷ [])) (output (ascii "2,5,,,,,,,,,," ∷ []))
+    ∷ replays "a label of 4,294,967,296" (traceOf (row0 ∷ (ascii "4294967296,1050," ++ atRest) ∷ [])) (output (shown0 ∷ ascii "3,5,,,,,,,,,," ∷ []))
     ∷ []
 
 -- After 4,294,967,295 no label is due: a further row in form gets 7, and the line number passes 32 bits.

@@ -267,23 +267,6 @@ cut-law part from line len c r line′ e =
           (start-forth part from c) (h .1),
     )
 
--- The same for each answer, where it is known by an equation: what a caller has in an arm of its `match`.
-module _ (part : List ℕ) (from : ℕ) (line : List ℕ) (len : ℕ) (c : Bool) {r : Taken} {line′ : List ℕ}
-    (e : (r, line′) ≡ cutOf part from line len c) where
-  told-as : (q : Taken) → r ≡ q → Told part from (λ rest. rowsFrom (take len line) c (drop from part ++ rest)) q line′
-  told-as q f = rw f at (cut-law part from line len c r line′ e .1)
-
-  pub row-law : {used n : ℕ} → r ≡ Row used n
-      → RowTold part from (λ rest. rowsFrom (take len line) c (drop from part ++ rest)) used n line′
-  row-law {used} {n} f = told-as (Row used n) f
-
-  pub more-law : {n : ℕ} {c′ : Bool} → r ≡ More n c′
-      → MoreTold (λ rest. rowsFrom (take len line) c (drop from part ++ rest)) n c′ line′
-  more-law {n} {c′} f = told-as (More n c′) f
-
-  pub over-law : r ≡ Over → (rest : List ℕ) → StartsOver (length line′) (rowsFrom (take len line) c (drop from part ++ rest))
-  over-law f = told-as Over f
-
 last-holds : (line : List ℕ) (n : ℕ) (c : Bool) → n ≤ length line
     → (length (lastFrom line n c .1) ≡ length line)
     × LastTold (rowsFrom (take n line) c []) (lastFrom line n c .0) (lastFrom line n c .1)

@@ -2,8 +2,8 @@
 -- Assumes nothing.
 use Prim.Native.Nat.{ℕ}
 use Prim.Native.String.{String}
-use mathlib.Core.List.{List, [], _∷_, _++_}
-use Rattle.common.specs.Ascii.{ascii, crlf}
+use mathlib.Core.List.{List, [], _∷_, map}
+use Rattle.common.specs.Ascii.{ascii, ended}
 use Rattle.dump.specs.Dumps.{Moment}
 use Rattle.dump.specs.Cases.{at}
 
@@ -19,11 +19,6 @@ sessionMoments =
     at 650 "10001 010 10 000 000 000 000 111 0" ∷
     []
 
--- Rows, each with its CR and LF.
-unfoldable pub endedRows : List String → List ℕ
-endedRows [] = []
-endedRows (text ∷ texts) = ascii text ++ crlf ++ endedRows texts
-
 -- The sheet: its header, and the seven times at which something is written.
 unfoldable pub sessionRows : List String
 sessionRows =
@@ -36,3 +31,7 @@ sessionRows =
     "550,1,0,0,0,0,0,1,0,1,0,0,0,0,0,0,0,0,0,0,0,0,0,1,1,1,0" ∷
     "650,1,0,0,0,1,0,1,0,1,0,0,0,0,0,0,0,0,0,0,0,0,0,1,1,1,0" ∷
     []
+
+-- All of it, each row with its CRLF.
+unfoldable pub sessionSheet : List ℕ
+sessionSheet = ended (map (λ (row : String). ascii row) sessionRows)

@@ -8,7 +8,7 @@ use borrow.Author.Tests.{lt-ltb}
 use lib.ListN.{length}
 use Rattle.common.specs.Answers.{Answer as RowAnswer, gives, refuses}
 use Rattle.trace.specs.declared.Due.{Due}
-use Rattle.trace.specs.Rows.{readRow}
+use Rattle.trace.specs.Rows.{longestRow, readRow}
 use Rattle.controller.specs.declared.State.{State}
 use Rattle.reading.specs.declared.Phase.{Phase}
 use Rattle.reading.specs.declared.Phase.the-variants.{Header, Rows, Ended}
@@ -21,14 +21,14 @@ use Rattle.reading.proofs.FirstRow.{by-first-row}
 
 -- ---- A row over 512 bytes
 
-over-in : (phase : Phase) (state : State) (row : List ℕ) → 512 < length row
+over-in : (phase : Phase) (state : State) (row : List ℕ) → longestRow < length row
     → rowOf (record { phase = phase; state = state }) row ≡ overOf (record { phase = phase; state = state })
 unfolding rowOf overOf headerRow traceRow noSample readRow
-over-in Header state row h = rw (lt-ltb 512 (length row) h)
-over-in (Rows due) state row h = rw (lt-ltb 512 (length row) h)
+over-in Header state row h = rw (lt-ltb longestRow (length row) h)
+over-in (Rows due) state row h = rw (lt-ltb longestRow (length row) h)
 over-in (Ended line refusal) state row h = refl
 
-pub over-row : (reading : Reading) (row : List ℕ) → 512 < length row → rowOf reading row ≡ overOf reading
+pub over-row : (reading : Reading) (row : List ℕ) → longestRow < length row → rowOf reading row ≡ overOf reading
 over-row reading row h = over-in (reading .phase) (reading .state) row h
 
 -- ---- After a refusal

@@ -7,6 +7,7 @@ use lib.Dec.{ltb}
 use lib.ListN.{length}
 use Rattle.lines.proofs.Steps.{either}
 use Rattle.trace.specs.declared.Due.the-variants.{Label}
+use Rattle.trace.specs.Rows.{longestRow}
 use Rattle.trace.specs.Header.{headerText as traceHeader, sameText}
 use Rattle.controller.specs.declared.State.{State}
 use Rattle.reading.specs.declared.Phase.the-variants.{Rows}
@@ -20,7 +21,7 @@ pub data First (row : List ℕ) : Type 0 where
 pub first-row : (row : List ℕ) → First row
 unfolding headerRow
 first-row row =
-    either (ltb 512 (length row)) (λ e. ends 6 (λ state. rw e))
+    either (ltb longestRow (length row)) (λ e. ends 6 (λ state. rw e))
     (λ e. either (sameText row traceHeader) (λ f. opens (λ state. rw (e, f))) (λ f. ends 5 (λ state. rw (e, f))))
 
 -- What holds of both holds of the row.

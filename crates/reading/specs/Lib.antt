@@ -1,5 +1,6 @@
 pub mod Rows
 pub mod Ends
 pub mod Whole
+pub mod SessionS
 pub mod Parts
 pub mod Runs

@@ -7,6 +7,7 @@ use mathlib.Core.List.{List}
 use lib.Dec.{eqb}
 use lib.ListN.{length, take}
 use Rattle.lines.specs.Cuts.{cutOf, lastOf}
+use Rattle.trace.specs.Rows.{longestRow}
 use Rattle.lines.specs.declared.Taken.{Taken}
 use Rattle.lines.specs.declared.Taken.the-variants.{Row, More, Over}
 use Rattle.lines.specs.declared.Final.{Final}
@@ -25,9 +26,9 @@ use Rattle.reading.specs.Rows.{untold, rowOf, overOf, endOf, readFrom}
 
 -- ---- A run under way
 
--- So many bytes has the line buffer, and so many has a row at most.
+-- So many bytes has the line buffer: as many as a row has at most.
 abbrev pub lineBytes : ℕ
-lineBytes = 512
+lineBytes = longestRow
 
 -- At the start, behind each row and at the end no row is under way.
 abbrev pub between : Reading → Run

@@ -10,7 +10,7 @@ use Rattle.common.specs.Answers.{Answer as RowAnswer, gives, refuses}
 use Rattle.trace.specs.declared.Due.{Due}
 use Rattle.trace.specs.declared.Due.the-variants.{Label, Nothing as NoLabel}
 use Rattle.trace.specs.Numbers.{greatest}
-use Rattle.trace.specs.Rows.{readRow}
+use Rattle.trace.specs.Rows.{longestRow, readRow}
 use Rattle.trace.specs.Header.{headerText as traceHeader, sameText}
 use Rattle.controller.specs.declared.State.{State}
 use Rattle.controller.specs.declared.Answer.{Answer}
@@ -48,7 +48,7 @@ endsAt line refusal state = record { reading = record { phase = Ended line refus
 -- is due. Of the header there is nothing to tell.
 unfoldable pub headerRow : State → List ℕ → Heard
 headerRow state row =
-    cond (ltb 512 (length row)) (endsAt 1 6 state)
+    cond (ltb longestRow (length row)) (endsAt 1 6 state)
     (cond (sameText row traceHeader) (untold (record { phase = Rows (Label 0); state = state }))
     (endsAt 1 5 state))
 

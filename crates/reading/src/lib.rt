@@ -43,7 +43,7 @@ use trace::Due;
 use trace::Row;
 
 // A row has at most so many bytes, and so has the line buffer.
-pub const LINE: usize = 512;
+pub const LINE: usize = trace::LONGEST_ROW;
 
 // How far a trace has been read.
 pub enum Phase {

@@ -122,14 +122,10 @@ two-tell-the-truth v e truth other =
     subst⁻¹ (λ (ch : Channels). (valueOf (voted (sensor ch (v .held)) truth truth other) ≡ truth) × (valueOf (voted (sensor ch (v .held)) truth other truth) ≡ truth) × (valueOf (voted (sensor ch (v .held)) other truth truth) ≡ truth)) e
     (told (v .held) truth other)
 
--- A fresh sensor is not invalid, and shows the value that it was given.
+-- A fresh sensor is not invalid.
 pub fresh-is-valid : (held : Bool) → isInvalid (freshWith held) ≡ false
 unfolding isInvalid freshWith
 fresh-is-valid held = refl
-
-pub fresh-shows : (held : Bool) → valueOf (freshWith held) ≡ held
-unfolding valueOf freshWith
-fresh-shows held = refl
 
 -- The first vote of a fresh sensor hears the channels alone: the value held makes no difference.
 pub first-vote-hears-the-channels : (held other : Bool) (one two three : Bool) → voted (freshWith held) one two three ≡ voted (freshWith other) one two three

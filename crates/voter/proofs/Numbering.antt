@@ -3,8 +3,7 @@
 use Prim.Native.Nat.{ℕ, zero, suc, _≤_}
 use native.Mathlib.Omega.{arith}
 use mathlib.Core.Path.{_≡_, refl}
-use lib.Dec.{eqb, lit≤}
-use Rattle.voter.specs.Voting.{isInvalid, noneLeft}
+use lib.Dec.{lit≤}
 use Rattle.voter.specs.Numbers.{channelsNumber, lastNumber, numberOf, channelsAt}
 use Rattle.voter.specs.declared.Channels.{Channels}
 use Rattle.voter.specs.declared.Channels.the-variants.{All, Without1, Without2, Without3, Nothing}
@@ -16,13 +15,6 @@ to-4 Without1 = lit≤ tt
 to-4 Without2 = lit≤ tt
 to-4 Without3 = lit≤ tt
 to-4 Nothing = lit≤ tt
-
-none-is-4 : (channels : Channels) → noneLeft channels ≡ eqb (channelsNumber channels) 4
-none-is-4 All = refl
-none-is-4 Without1 = refl
-none-is-4 Without2 = refl
-none-is-4 Without3 = refl
-none-is-4 Nothing = refl
 
 -- The channels with the number of channels are these channels ..
 pub at-number : (channels : Channels) → channelsAt (channelsNumber channels) ≡ channels
@@ -43,11 +35,7 @@ number-at (suc (suc (suc zero))) h = refl
 number-at (suc (suc (suc (suc zero)))) h = refl
 number-at (suc (suc (suc (suc (suc n))))) h = absurd (omega arith)
 
--- A sensor's number is at most 4, and 4 exactly if the sensor is invalid.
+-- A sensor's number is at most 4.
 pub number-to-4 : (v : Voter) → numberOf v ≤ lastNumber
 unfolding numberOf
 number-to-4 v = to-4 (v .channels)
-
-pub invalid-is-4 : (v : Voter) → isInvalid v ≡ eqb (numberOf v) 4
-unfolding isInvalid numberOf
-invalid-is-4 v = none-is-4 (v .channels)
