@@ -7,6 +7,18 @@ pub struct Loaded {
     pub state: State,
 }
 
+// Loads the image that argument 2 names, or says why not.
+pub fn named(name: &[u8]) -> Loaded {
+    let mut path = io::buffer();
+    let n = os::arg(2, &mut path);
+    let fd = os::open_read(&path[..n]);
+    if fd < 0 {
+        words::say(name, b"there is no such image to read");
+        return nothing();
+    }
+    read(name, fd)
+}
+
 // No controller.
 fn nothing() -> Loaded {
     Loaded {
@@ -42,20 +54,8 @@ fn load(name: &[u8], image: &[u8]) -> Loaded {
 
 // Reads the file: one byte more than an image has, so that a longer one is seen to be no image.
 fn read(name: &[u8], fd: i32) -> Loaded {
-    let mut bytes = [0u8; 205];
+    let mut bytes = [0u8; image::SIZE + 1];
     let n = io::read_full(fd, &mut bytes);
     libc::close(fd);
     load(name, &bytes[..n])
-}
-
-// Loads the image that argument 2 names, or says why not.
-pub fn named(name: &[u8]) -> Loaded {
-    let mut path = io::buffer();
-    let n = os::arg(2, &mut path);
-    let fd = os::open_read(&path[..n]);
-    if fd < 0 {
-        words::say(name, b"there is no such image to read");
-        return nothing();
-    }
-    read(name, fd)
 }

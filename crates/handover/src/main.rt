@@ -90,7 +90,7 @@ fn save(start: Run) {
         return;
     }
     let run = ran.run;
-    let mut out = [0u8; 204];
+    let mut out = [0u8; image::SIZE];
     let saved = handing::save_last(run, &mut out);
     words::put(&NAME, &out, saved.written);
     tell(run.phase());

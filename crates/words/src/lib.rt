@@ -23,6 +23,26 @@ pub fn put(name: &[u8], out: &[u8], n: usize) -> bool {
     false
 }
 
+// The refusal that ended the reading of a trace, in one line on standard error; the line buffer is as it was left.
+pub fn refused(name: &[u8], line: u64, refusal: u8, buffer: &[u8]) {
+    io::write_all(STDERR_FILENO, name);
+    io::write_all(STDERR_FILENO, b": line ");
+    io::print_decimal(STDERR_FILENO, line);
+    io::write_all(STDERR_FILENO, b", refusal ");
+    io::print_decimal(STDERR_FILENO, refusal as u64);
+    meaning(refusal);
+    if line == 1 {
+        io::write_all(STDERR_FILENO, b"; a trace begins with its header");
+        if has_lf(buffer) {
+            io::write_all(
+                STDERR_FILENO,
+                b", and its rows end in CRLF: here a bare LF was seen",
+            );
+        }
+    }
+    io::write_all(STDERR_FILENO, b"\n");
+}
+
 // Whether a lone LF stands in the line buffer.
 fn has_lf(line: &[u8]) -> bool {
     let mut found = false;
@@ -42,24 +62,4 @@ fn meaning(refusal: u8) {
         _ => io::write_all(STDERR_FILENO, b": the row breaks the form of a trace"),
     }
     ;
-}
-
-// The refusal that ended the reading of a trace, in one line on standard error; the line buffer is as it was left.
-pub fn refused(name: &[u8], line: u64, refusal: u8, buffer: &[u8]) {
-    io::write_all(STDERR_FILENO, name);
-    io::write_all(STDERR_FILENO, b": line ");
-    io::print_decimal(STDERR_FILENO, line);
-    io::write_all(STDERR_FILENO, b", refusal ");
-    io::print_decimal(STDERR_FILENO, refusal as u64);
-    meaning(refusal);
-    if line == 1 {
-        io::write_all(STDERR_FILENO, b"; a trace begins with its header");
-        if has_lf(buffer) {
-            io::write_all(
-                STDERR_FILENO,
-                b", and its rows end in CRLF: here a bare LF was seen",
-            );
-        }
-    }
-    io::write_all(STDERR_FILENO, b"\n");
 }
