@@ -39,5 +39,3 @@ unfolding givenFrom flatten decimal decimalUpTo
     atAim nextGears doorsToGears doorsHome moveOf doorsAt gearsAt factsAt askedAt movingHaveOpen
     keptOf decides decisive frameText numbersText whenText partBegin partsText nextText elseText placeText lines headLines tailLines pageText
 page-length = refl
-
--- x

@@ -3,6 +3,5 @@ pub mod Fields
 pub mod Lengths
 pub mod Once
 pub mod PageWorked
-pub mod Pieces
 pub mod Telling
 pub mod Worked

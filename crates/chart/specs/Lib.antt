@@ -4,5 +4,4 @@ pub mod Differences
 pub mod Page
 pub mod PageCases
 pub mod Parts
-pub mod Room
 pub mod Telling

@@ -4,7 +4,7 @@ ghost use mathlib.Core.Bool.{cond};
 ghost use mathlib.Core.List.{[]};
 ghost use mathlib.Core.Path.{_≡_};
 ghost use Rattle.names.specs.Words.{entry};
-ghost use Rattle.texts.specs.Puts.{putOf};
+ghost use Rattle.texts.specs.Puts.{PutIfRoom, putOf};
 ghost use Rattle.chart.specs.Differences.{isNamed};
 ghost use Rattle.chart.specs.Page.{
   left,
@@ -20,7 +20,6 @@ ghost use Rattle.chart.specs.Page.{
   pageText,
 };
 ghost use Rattle.chart.specs.Parts.{parts};
-ghost use Rattle.chart.specs.Room.{PutIfRoom};
 use crate::differences;
 use crate::differences::Deciding;
 use crate::parts;

@@ -1,7 +1,7 @@
 // The pieces of the page that are the same at every place (specs/Parts.antt): one text, and the places where they begin.
 ghost use Rattle.names.specs.Words.{entry};
+ghost use Rattle.texts.specs.Puts.{PutIfRoom};
 ghost use Rattle.chart.specs.Parts.{parts};
-ghost use Rattle.chart.specs.Room.{PutIfRoom};
 
 // The places of the pieces in their list.
 pub(crate) const GROUP: usize = 0;

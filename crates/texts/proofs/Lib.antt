@@ -1,3 +1,4 @@
 pub mod Chains
 pub mod Once
+pub mod Pieces
 pub mod Placing

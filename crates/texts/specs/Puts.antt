@@ -1,6 +1,6 @@
 -- A piece of text that is put at a place of a line, and what the line then holds.
 -- Assumes nothing.
-use Prim.Native.Nat.{ℕ, _+_}
+use Prim.Native.Nat.{ℕ, _+_, _≤_}
 use mathlib.Core.Bool.{cond}
 use mathlib.Core.List.{List, _++_}
 use mathlib.Core.Path.{_≡_}
@@ -22,3 +22,7 @@ pub record Put (before : List ℕ) (at : ℕ) (piece : List ℕ) (after : List �
   pub size : length after ≡ length before
   pub text : take next after ≡ take at before ++ piece
   pub past : drop next after ≡ drop next before
+
+-- With room for the piece, it is put. (Without, nothing is said.) So texts are put together of pieces, and the room is asked for once.
+abbrev pub PutIfRoom : List ℕ → ℕ → List ℕ → List ℕ → ℕ → Type 0
+PutIfRoom before at piece after next = at + length piece ≤ length before → Put before at piece after next

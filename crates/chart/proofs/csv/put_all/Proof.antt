@@ -9,8 +9,8 @@ use Rattle.common.specs.Lists.{givenFrom}
 use Rattle.common.proofs.Given.{text-turn}
 use Rattle.common.specs.Ascii.{joinedByCommas}
 use Rattle.chart.specs.Csv.{csvHeader, csvRow, csvText}
-use Rattle.chart.specs.Room.{PutIfRoom}
-use Rattle.chart.proofs.Pieces.{nothing, same, put, and}
+use Rattle.texts.specs.Puts.{PutIfRoom}
+use Rattle.texts.proofs.Pieces.{nothing, same, put, and}
 use borrow.Author.Needs.{needs}
 use Rattle.chart.proofs.csv.put_all.Statement.{statement}
 use Rattle.chart.proofs.csv.put_all.Tie as tie

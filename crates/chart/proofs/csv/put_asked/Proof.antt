@@ -1,7 +1,7 @@
 -- `chart::csv::put_asked` meets its contract: the fields of the handle, of doors and gears, and of the facts.
 -- Assumes nothing.
 use Rattle.chart.proofs.Fields.{asked-text}
-use Rattle.chart.proofs.Pieces.{same, put, and}
+use Rattle.texts.proofs.Pieces.{same, put, and}
 use borrow.Author.Needs.{needs}
 use Rattle.chart.proofs.csv.put_asked.Statement.{statement}
 use Rattle.chart.proofs.csv.put_asked.Tie as tie

@@ -1,6 +1,6 @@
 -- `chart::csv::put_field` meets its contract: the comma, and the number.
 -- Assumes nothing.
-use Rattle.chart.proofs.Pieces.{put, and}
+use Rattle.texts.proofs.Pieces.{put, and}
 use borrow.Author.Needs.{needs}
 use Rattle.chart.proofs.csv.put_field.Statement.{statement}
 use Rattle.chart.proofs.csv.put_field.Tie as tie

@@ -1,7 +1,7 @@
 -- `chart::csv::put_place` meets its contract: the doors, and the gears, each with their number.
 -- Assumes nothing.
 use Rattle.common.specs.Ascii.{joinedByCommas}
-use Rattle.chart.proofs.Pieces.{put, and}
+use Rattle.texts.proofs.Pieces.{put, and}
 use borrow.Author.Needs.{needs}
 use Rattle.chart.proofs.csv.put_place.Statement.{statement}
 use Rattle.chart.proofs.csv.put_place.Tie as tie

@@ -1,7 +1,7 @@
 -- `chart::csv::put_row` meets its contract: its number, what is asked, what comes next, and its end.
 -- Assumes nothing.
 use Rattle.chart.proofs.Fields.{row-text}
-use Rattle.chart.proofs.Pieces.{same, put, and}
+use Rattle.texts.proofs.Pieces.{same, put, and}
 use borrow.Author.Needs.{needs}
 use Rattle.chart.proofs.csv.put_row.Statement.{statement}
 use Rattle.chart.proofs.csv.put_row.Tie as tie

@@ -8,8 +8,8 @@ use lib.ListN.{length}
 use Rattle.common.specs.Lists.{givenFrom}
 use Rattle.common.proofs.Given.{text-turn}
 use Rattle.chart.specs.Page.{placeText, lines, headLines, tailLines, pageText}
-use Rattle.chart.specs.Room.{PutIfRoom}
-use Rattle.chart.proofs.Pieces.{nothing, same, put, and}
+use Rattle.texts.specs.Puts.{PutIfRoom}
+use Rattle.texts.proofs.Pieces.{nothing, same, put, and}
 use borrow.Author.Needs.{needs}
 use Rattle.chart.proofs.page.put_all.Statement.{statement}
 use Rattle.chart.proofs.page.put_all.Tie as tie

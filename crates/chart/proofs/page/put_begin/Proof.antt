@@ -3,7 +3,7 @@
 use Rattle.chart.specs.Parts.{parts}
 use Rattle.chart.specs.Page.{partBegin}
 use Rattle.chart.proofs.Choices.{chosen}
-use Rattle.chart.proofs.Pieces.{same, and}
+use Rattle.texts.proofs.Pieces.{same, and}
 use borrow.Author.Needs.{needs}
 use Rattle.chart.proofs.page.put_begin.Statement.{statement}
 use Rattle.chart.proofs.page.put_begin.Tie as tie

@@ -2,7 +2,7 @@
 -- Assumes nothing.
 use Rattle.chart.specs.Parts.{parts}
 use Rattle.chart.specs.Page.{elseText}
-use Rattle.chart.proofs.Pieces.{nothing, and}
+use Rattle.texts.proofs.Pieces.{nothing, and}
 use borrow.Author.Needs.{needs}
 use Rattle.chart.proofs.page.put_else.Statement.{statement}
 use Rattle.chart.proofs.page.put_else.Tie as tie

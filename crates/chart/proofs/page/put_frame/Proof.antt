@@ -3,7 +3,7 @@
 use Rattle.chart.specs.Parts.{parts}
 use Rattle.chart.specs.Page.{frameText}
 use Rattle.chart.proofs.Choices.{chosen}
-use Rattle.chart.proofs.Pieces.{same, put, and}
+use Rattle.texts.proofs.Pieces.{same, put, and}
 use borrow.Author.Needs.{needs}
 use Rattle.chart.proofs.page.put_frame.Statement.{statement}
 use Rattle.chart.proofs.page.put_frame.Tie as tie

@@ -13,7 +13,7 @@ use Rattle.chart.specs.declared.differences.Deciding.{Deciding}
 use Rattle.chart.specs.Differences.{alone, isNamed, decisive}
 use Rattle.chart.specs.Parts.{endOfGroupPiece, parts}
 use Rattle.chart.specs.Page.{frameText, numbersText, whenText, nextText, elseText, placeText}
-use Rattle.chart.proofs.Pieces.{same, and}
+use Rattle.texts.proofs.Pieces.{same, and}
 use borrow.Author.Needs.{needs}
 use Rattle.chart.proofs.page.put_place.Statement.{statement}
 use Rattle.chart.proofs.page.put_place.Tie as tie

@@ -2,7 +2,7 @@
 -- Assumes nothing.
 use Rattle.chart.specs.Parts.{parts}
 use Rattle.chart.specs.Page.{whenText}
-use Rattle.chart.proofs.Pieces.{same, and}
+use Rattle.texts.proofs.Pieces.{same, and}
 use borrow.Author.Needs.{needs}
 use Rattle.chart.proofs.page.put_when.Statement.{statement}
 use Rattle.chart.proofs.page.put_when.Tie as tie

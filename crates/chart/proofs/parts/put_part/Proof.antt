@@ -11,7 +11,7 @@ use Rattle.common.specs.Lists.{givenFrom}
 use Rattle.common.proofs.Given.{same-at-each}
 use Rattle.names.specs.Words.{entry}
 use Rattle.chart.specs.Parts.{parts}
-use Rattle.chart.proofs.Pieces.{nothing, same, put}
+use Rattle.texts.proofs.Pieces.{nothing, same, put}
 use borrow.Author.Needs.{needs}
 use Rattle.chart.proofs.parts.put_part.Statement.{statement}
 use Rattle.chart.proofs.parts.put_part.Tie as tie

@@ -1,14 +1,12 @@
 -- Pieces that are put one after the other, each if there is room for it: the room for all of them is room for each.
--- These laws hold of any text; they know nothing of this crate.
 -- Assumes nothing.
 use Prim.Native.Nat.{ℕ, _+_, _≤_}
 use native.Mathlib.Omega.{arith}
 use mathlib.Core.List.{List, [], _++_}
 use mathlib.Core.Path.{_≡_}
 use lib.ListN.{length, length-append}
-use Rattle.texts.specs.Puts.{putOf}
+use Rattle.texts.specs.Puts.{Put, PutIfRoom, putOf}
 use Rattle.texts.proofs.Placing.{did-put, then, same-piece, put-nothing}
-use Rattle.chart.specs.Room.{PutIfRoom}
 
 -- Nothing is put.
 pub nothing : (line : List ℕ) (at : ℕ) → PutIfRoom line at [] line at
@@ -31,3 +29,8 @@ and {one = one} {two = two} p q room =
     let long = length-append one two in
     let first = p (omega arith) in
     then first (q (omega (arith, first .place, first .size)))
+
+-- A piece that is no longer than this, in a line that has room for so much.
+pub within : {before : List ℕ} {at : ℕ} {piece after : List ℕ} {next : ℕ} → PutIfRoom before at piece after next
+    → (most : ℕ) → length piece ≤ most → at + most ≤ length before → (next ≤ at + most) × Put before at piece after next
+within p most fits room = let all = p (omega arith) in (omega (arith, all .place), all)
