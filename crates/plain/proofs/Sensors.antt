@@ -22,7 +22,7 @@ one-more name (suc i) (v ∷ vs) d h =
     let last = ofSensor (getD vs i d) in
     append-assoc first others (line (entry sensorNames (suc i + name)) last)
     ∙ ap (λ (k : ℕ). first ++ (others ++ line (entry sensorNames k) last)) (suc-add i name ∙ sym (add-suc i name))
-    ∙ ap (λ (l : List (List ℕ)). first ++ l) (one-more (suc name) i vs d (le-of-suc-le-suc h))
+    ∙ ap (λ (l : List ℕ). first ++ l) (one-more (suc name) i vs d (le-of-suc-le-suc h))
 
 -- The same, as a loop counts.
 pub sensor-turn : (i : ℕ) (vs : List Voter) (d : Voter) → i < length vs

@@ -3,11 +3,11 @@
 use Prim.Native.Nat.{ℕ, zero, suc, _+_, _*_, _/_, _%_, _≤_}
 use native.Mathlib.Omega.{arith}
 use mathlib.Core.Bool.{Bool, true, false, cond}
-use mathlib.Core.List.{List, [], _∷_, _++_, append-assoc, flatten}
-use mathlib.Core.Path.{_≡_, refl, sym, ap, _∙_}
-use lib.Dec.{ltb}
+use mathlib.Core.List.{List, [], _∷_, _++_}
+use mathlib.Core.Path.{_≡_}
+use lib.Dec.{ltb, lit≤}
 use lib.ListN.{length, length-append}
-use Rattle.common.specs.Ascii.{lf}
+use Rattle.common.specs.Ascii.{ascii}
 use Rattle.common.specs.Decimal.{decimal, decimalUpTo, digit0}
 use Rattle.voter.specs.declared.Voter.{Voter}
 use Rattle.voter.specs.Numbers.{numberOf}
@@ -15,14 +15,9 @@ use Rattle.orders.specs.declared.Order.{Order}
 use Rattle.orders.specs.declared.Orders.{Orders}
 use Rattle.controller.specs.declared.Core.{Core}
 use Rattle.controller.specs.declared.State.{State}
-use Rattle.names.specs.Words.{entry, causeWords}
+use Rattle.names.specs.Words.{entry, sensorNames, generalName, closesName, opensName, retractsName, extendsName, causeWords}
 use Rattle.names.proofs.Lengths.{sensor-length, voter-length, cause-length, doors-length, gears-length}
-use Rattle.plain.specs.Plain.{onOrOff, ofCause, sensorLines, orderLines, restLines, allLines}
-
-flatten-append : (ps qs : List (List ℕ)) → flatten (ps ++ qs) ≡ flatten ps ++ flatten qs
-unfolding flatten
-flatten-append [] qs = refl
-flatten-append (p ∷ ps) qs = ap (λ (l : List ℕ). p ++ l) (flatten-append ps qs) ∙ sym (append-assoc p (flatten ps) (flatten qs))
+use Rattle.plain.specs.Plain.{line, inMs, onOrOff, ofSensor, ofOrder, ofCause, sensorLines, orderLines, placeLines, restLines, plainOf}
 
 -- ---- What is said
 
@@ -51,57 +46,70 @@ said-of-cause cause = by-test (ltb cause (length causeWords)) where
 
 -- ---- The lines
 
-pub sensors-length : (k : ℕ) (vs : List Voter) → length (flatten (sensorLines k vs)) ≤ 54 * length vs
-unfolding flatten sensorLines
+line-length : (name said : List ℕ) → length (line name said) ≡ length name + length said + 3
+unfolding line
+line-length name said = simp length-append (omega arith)
+
+ms-length : (ms : ℕ) → length (inMs ms) ≤ 23
+unfolding inMs
+ms-length ms = omega (arith, length-append (decimal ms) (ascii " ms"), number-length ms)
+
+sensor-line : (k : ℕ) (v : Voter) → length (line (entry sensorNames k) (ofSensor v)) ≤ 54
+unfolding ofSensor
+sensor-line k v =
+    rw (line-length (entry sensorNames k) (ofSensor v)) (simp length-append (omega (arith, sensor-length k, voter-length (numberOf v))))
+
+sensors-length : (k : ℕ) (vs : List Voter) → length (sensorLines k vs) ≤ 54 * length vs
+unfolding sensorLines
 sensors-length k [] = omega arith
 sensors-length k (v ∷ vs) =
-    simp length-append (omega (arith, sensors-length (suc k) vs, sensor-length k, voter-length (numberOf v)))
+    omega (
+      arith,
+      length-append (line (entry sensorNames k) (ofSensor v)) (sensorLines (suc k) vs),
+      sensor-line k v,
+      sensors-length (suc k) vs,
+    )
 
-orders-length : (os : Orders) → length (flatten (orderLines os)) ≤ 222
-unfolding flatten orderLines
+order-line : (name : List ℕ) (o : Order) → length name ≤ 10 → length (line name (ofOrder o)) ≤ 45
+unfolding ofOrder
+order-line name o short =
+    rw (line-length name (ofOrder o)) (simp length-append (omega (arith, short, on-length (o .on), ms-length (o .age))))
+
+orders-length : (os : Orders) → length (orderLines os) ≤ 225
+unfolding orderLines
 orders-length os =
     simp length-append
     (omega (
       arith,
-      on-length (os .general .on),
-      number-length (os .general .age),
-      on-length (os .closes .on),
-      number-length (os .closes .age),
-      on-length (os .opens .on),
-      number-length (os .opens .age),
-      on-length (os .retracts .on),
-      number-length (os .retracts .age),
-      on-length (os .extends .on),
-      number-length (os .extends .age),
+      order-line generalName (os .general) (lit≤ tt),
+      order-line closesName (os .closes) (lit≤ tt),
+      order-line opensName (os .opens) (lit≤ tt),
+      order-line retractsName (os .retracts) (lit≤ tt),
+      order-line extendsName (os .extends) (lit≤ tt),
     ))
 
-rest-length : (c : Core) → length (flatten (restLines c)) ≤ 145
-unfolding flatten restLines
+rest-length : (c : Core) → length (restLines c) ≤ 145
+unfolding restLines placeLines
 rest-length c =
-    simp length-append
+    simp (length-append, line-length)
     (omega (
       arith,
-      number-length (c .since),
+      ms-length (c .since),
       doors-length (c .place .doors),
       gears-length (c .place .gears),
       said-of-cause (c .cause),
     ))
 
-pub all-length : (s : State) → length (flatten (sensorLines 0 (s .voters))) ≤ 972 → length (flatten (allLines s)) ≤ 1375
-unfolding flatten allLines
+-- All lines of 18 sensors.
+pub all-length : (s : State) → length (s .voters) ≡ 18 → length (plainOf s) ≤ 1375
+unfolding plainOf
 all-length s sensors =
-    let stamp = decimal (s .stamp) in
-    let one = sensorLines 0 (s .voters) in
-    let two = orderLines (s .core .orders) in
-    let three = restLines (s .core) in
-    rw (flatten-append (one ++ two) three, flatten-append one two)
+    simp (length-append, line-length)
     (omega (
       arith,
-      number-length (s .stamp),
       sensors,
+      number-length (s .stamp),
+      sensors-length 0 (s .voters),
       orders-length (s .core .orders),
       rest-length (s .core),
-      length-append stamp (lf ∷ (flatten one ++ flatten two ++ flatten three)),
-      length-append (flatten one ++ flatten two) (flatten three),
-      length-append (flatten one) (flatten two),
     ))

@@ -7,13 +7,12 @@ use Rattle.common.specs.Decimal.{decimal, decimalUpTo}
 use Rattle.voter.specs.Voting.{freshWith, valueOf}
 use Rattle.voter.specs.Numbers.{numberOf}
 use Rattle.controller.specs.Start.{offLong, freshOrders, freshCore, freshVoters, freshOf}
-use mathlib.Core.List.{flatten}
 use Rattle.names.specs.Words.{sensorNames, voterWords, causeWords}
-use Rattle.plain.specs.Plain.{ofCause, sensorLines, orderLines, restLines, allLines, plainOf}
+use Rattle.plain.specs.Plain.{line, ofSensor, inMs, ofOrder, ofCause, sensorLines, orderLines, placeLines, restLines, plainOf}
 use Rattle.plain.specs.Cases.{linesOf, freshLines, freshStart}
 
 pub fresh-as-wanted : AllAsWanted (freshStart ∷ [])
 unfolding decimal decimalUpTo freshWith valueOf numberOf offLong freshOrders freshCore freshVoters freshOf
-    flatten sensorNames voterWords causeWords
-    ofCause sensorLines orderLines restLines allLines plainOf linesOf freshLines freshStart
+    sensorNames voterWords causeWords
+    line ofSensor inMs ofOrder ofCause sensorLines orderLines placeLines restLines plainOf linesOf freshLines freshStart
 fresh-as-wanted = refl

@@ -1,9 +1,8 @@
 -- Request K3: an image in plain words, each item by name, a line for each name; the two items of a sensor or an order share a line.
--- A text is given as the pieces that it is put together of.
 -- Assumes nothing.
 use Prim.Native.Nat.{ℕ, suc, _+_}
 use mathlib.Core.Bool.{Bool, true, false, cond}
-use mathlib.Core.List.{List, [], _∷_, _++_, flatten}
+use mathlib.Core.List.{List, [], _∷_, _++_}
 use lib.Dec.{ltb}
 use lib.ListN.{length}
 use Rattle.common.specs.Ascii.{ascii, lf}
@@ -12,6 +11,7 @@ use Rattle.common.specs.Decimal.{decimal, digit0}
 use Rattle.voter.specs.declared.Voter.{Voter}
 use Rattle.voter.specs.Voting.{valueOf}
 use Rattle.voter.specs.Numbers.{numberOf}
+use Rattle.sequence.specs.declared.Place.{Place}
 use Rattle.orders.specs.declared.Order.{Order}
 use Rattle.orders.specs.declared.Orders.{Orders}
 use Rattle.controller.specs.declared.Core.{Core}
@@ -31,26 +31,26 @@ use Rattle.names.specs.Words.{
 }
 
 -- A line: its name, what is said, and LF.
-abbrev pub line : List ℕ → List (List ℕ) → List (List ℕ)
-line name said = name ∷ ascii ": " ∷ (said ++ (lf ∷ []) ∷ [])
+unfoldable pub line : List ℕ → List ℕ → List ℕ
+line name said = name ++ ascii ": " ++ said ++ lf ∷ []
 
 -- ---- What is said
 
 -- A sensor: its voter and held value.
-abbrev pub ofSensor : Voter → List (List ℕ)
-ofSensor v = entry voterWords (numberOf v) ∷ ascii ", held " ∷ ((digit0 + bit (valueOf v)) ∷ []) ∷ []
+unfoldable pub ofSensor : Voter → List ℕ
+ofSensor v = entry voterWords (numberOf v) ++ ascii ", held " ++ (digit0 + bit (valueOf v)) ∷ []
 
 -- A time in ms.
-abbrev pub inMs : ℕ → List (List ℕ)
-inMs ms = decimal ms ∷ ascii " ms" ∷ []
+unfoldable pub inMs : ℕ → List ℕ
+inMs ms = decimal ms ++ ascii " ms"
 
 -- An order: on or off, and its age.
 abbrev pub onOrOff : Bool → List ℕ
 onOrOff true = ascii "on"
 onOrOff false = ascii "off"
 
-abbrev pub ofOrder : Order → List (List ℕ)
-ofOrder o = onOrOff (o .on) ∷ ascii ", age " ∷ inMs (o .age)
+unfoldable pub ofOrder : Order → List ℕ
+ofOrder o = onOrOff (o .on) ++ ascii ", age " ++ inMs (o .age)
 
 -- A cause. (A number that is no cause is shown as it is: no image that is taken has one.)
 unfoldable pub ofCause : ℕ → List ℕ
@@ -59,12 +59,12 @@ ofCause cause = cond (ltb cause (length causeWords)) (entry causeWords cause) (d
 -- ---- The lines
 
 -- The sensors, from this one on.
-unfoldable pub sensorLines : ℕ → List Voter → List (List ℕ)
+unfoldable pub sensorLines : ℕ → List Voter → List ℕ
 sensorLines k [] = []
 sensorLines k (v ∷ vs) = line (entry sensorNames k) (ofSensor v) ++ sensorLines (suc k) vs
 
 -- The orders, as in the output row.
-unfoldable pub orderLines : Orders → List (List ℕ)
+unfoldable pub orderLines : Orders → List ℕ
 orderLines os =
     line generalName (ofOrder (os .general)) ++
     line closesName (ofOrder (os .closes)) ++
@@ -72,19 +72,15 @@ orderLines os =
     line retractsName (ofOrder (os .retracts)) ++
     line extendsName (ofOrder (os .extends))
 
--- Handle age, doors, gears, cause.
-unfoldable pub restLines : Core → List (List ℕ)
-restLines c =
-    line (ascii "handle age") (inMs (c .since)) ++
-    line (ascii "doors") (doorsWord (c .place .doors) ∷ []) ++
-    line (ascii "gears") (gearsWord (c .place .gears) ∷ []) ++
-    line (ascii "cause") (ofCause (c .cause) ∷ [])
+-- Doors and gears.
+unfoldable pub placeLines : Place → List ℕ
+placeLines p = line (ascii "doors") (doorsWord (p .doors)) ++ line (ascii "gears") (gearsWord (p .gears))
 
--- All lines.
-unfoldable pub allLines : State → List (List ℕ)
-allLines s =
-    line (ascii "last stamp") (decimal (s .stamp) ∷ []) ++ sensorLines 0 (s .voters) ++ orderLines (s .core .orders) ++ restLines (s .core)
+-- Handle age, doors and gears, cause.
+unfoldable pub restLines : Core → List ℕ
+restLines c = line (ascii "handle age") (inMs (c .since)) ++ placeLines (c .place) ++ line (ascii "cause") (ofCause (c .cause))
 
 -- The controller in plain words.
 unfoldable pub plainOf : State → List ℕ
-plainOf s = flatten (allLines s)
+plainOf s =
+    line (ascii "last stamp") (decimal (s .stamp)) ++ sensorLines 0 (s .voters) ++ orderLines (s .core .orders) ++ restLines (s .core)

@@ -1,40 +1,47 @@
-// The lines of a controller in plain words (specs/Plain.antt), each put after the one before, piece by piece. A piece that had no room
-// would be left out; `crate::put` lends an array that has room for all of them.
+// The lines of a controller in plain words (specs/Plain.antt), each put after the one before, piece by piece: every function puts its
+// piece if there is room for it, and the array that `crate::put` lends has room for all of them.
 ghost use mathlib.Core.Path.{_≡_};
-ghost use mathlib.Core.List.{_∷_, [], flatten};
 ghost use Prim.Native.Nat.{_≤_};
 ghost use lib.ListN.{length};
-ghost use Rattle.common.specs.Ascii.{ascii};
-ghost use Rattle.names.specs.Words.{entry, sensorNames, orderNames, doorsWord, gearsWord};
-ghost use Rattle.texts.specs.Chains.{Chain};
-ghost use Rattle.texts.specs.Puts.{putOf};
-ghost use Rattle.plain.specs.Plain.{line, ofSensor, inMs, onOrOff, ofOrder, ofCause, sensorLines, orderLines, restLines, allLines};
+ghost use Rattle.names.specs.Words.{entry, sensorNames, orderNames};
+ghost use Rattle.texts.specs.Puts.{PutIfRoom, putOf};
+ghost use Rattle.plain.specs.Plain.{
+  line,
+  ofSensor,
+  inMs,
+  onOrOff,
+  ofOrder,
+  ofCause,
+  sensorLines,
+  orderLines,
+  placeLines,
+  restLines,
+  plainOf,
+};
 use controller::Core;
 use controller::State;
 use orders::Order;
 use orders::Orders;
-use sequence::Doors;
-use sequence::Gears;
+use sequence::Place;
 use voter::Voter;
 
 // Puts all lines: so many bytes at most.
 pub(crate) fn put_all(text: &mut [u8], state: State) -> usize
-    ensures { λ r. ⌜ (length (flatten (allLines state)) ≤ 1375) × Chain (now (text .entry)) 0 (allLines state) (now (text .exit)) r ⌝ }
+    ensures { λ r. ⌜ (length (plainOf state) ≤ 1375) × PutIfRoom (now (text .entry)) 0 (plainOf state) (now (text .exit)) r ⌝ }
 {
     let voters = state.voters;
     let core = state.core;
-    let named = texts::put(text, 0, b"last stamp");
-    let told = texts::put(text, named, b": ");
-    let stamped = texts::put_number(text, told, state.stamp as u64);
+    let named = texts::put(text, 0, b"last stamp: ");
+    let stamped = texts::put_number(text, named, state.stamp as u64);
     let ended = texts::put(text, stamped, b"\n");
     let sensed = put_sensors(text, ended, voters);
     let ordered = put_orders(text, sensed, core.orders);
     put_rest(text, ordered, core)
 }
 
-// Puts the lines of the sensors: so many bytes at most.
+// Puts the lines of the sensors: there are so many.
 fn put_sensors(text: &mut [u8], at: usize, voters: [Voter; 18]) -> usize
-    ensures { λ r. ⌜ (length (flatten (sensorLines 0 voters)) ≤ 972) × Chain (now (text .entry)) at (sensorLines 0 voters) (now (text .exit)) r ⌝ }
+    ensures { λ r. ⌜ (length voters ≡ 18) × PutIfRoom (now (text .entry)) at (sensorLines 0 voters) (now (text .exit)) r ⌝ }
 {
     let mut next = at;
     let mut i = 0;
@@ -48,7 +55,7 @@ fn put_sensors(text: &mut [u8], at: usize, voters: [Voter; 18]) -> usize
 
 // Puts the line of sensor k: its voter and held value.
 fn sensor_line(text: &mut [u8], at: usize, k: usize, v: Voter) -> usize
-    ensures { λ r. ⌜ Chain (now (text .entry)) at (line (entry sensorNames k) (ofSensor v)) (now (text .exit)) r ⌝ }
+    ensures { λ r. ⌜ PutIfRoom (now (text .entry)) at (line (entry sensorNames k) (ofSensor v)) (now (text .exit)) r ⌝ }
 {
     let value = [texts::on_off(v.value())];
     let named = names::put_sensor(text, at, k);
@@ -61,7 +68,7 @@ fn sensor_line(text: &mut [u8], at: usize, k: usize, v: Voter) -> usize
 
 // Puts the lines of the orders, as in the output row.
 fn put_orders(text: &mut [u8], at: usize, orders: Orders) -> usize
-    ensures { λ r. ⌜ Chain (now (text .entry)) at (orderLines orders) (now (text .exit)) r ⌝ }
+    ensures { λ r. ⌜ PutIfRoom (now (text .entry)) at (orderLines orders) (now (text .exit)) r ⌝ }
 {
     let general = order_line(text, at, names::GENERAL, orders.general);
     let closes = order_line(text, general, names::CLOSES, orders.closes);
@@ -72,7 +79,7 @@ fn put_orders(text: &mut [u8], at: usize, orders: Orders) -> usize
 
 // Puts the line of order k: on or off, and its age.
 fn order_line(text: &mut [u8], at: usize, k: usize, o: Order) -> usize
-    ensures { λ r. ⌜ Chain (now (text .entry)) at (line (entry orderNames k) (ofOrder o)) (now (text .exit)) r ⌝ }
+    ensures { λ r. ⌜ PutIfRoom (now (text .entry)) at (line (entry orderNames k) (ofOrder o)) (now (text .exit)) r ⌝ }
 {
     let named = names::put_order(text, at, k);
     let told = texts::put(text, named, b": ");
@@ -94,7 +101,7 @@ fn put_on(text: &mut [u8], at: usize, on: bool) -> usize
 
 // Puts a time in ms.
 fn put_ms(text: &mut [u8], at: usize, ms: u32) -> usize
-    ensures { λ r. ⌜ Chain (now (text .entry)) at (inMs ms) (now (text .exit)) r ⌝ }
+    ensures { λ r. ⌜ PutIfRoom (now (text .entry)) at (inMs ms) (now (text .exit)) r ⌝ }
 {
     let number = texts::put_number(text, at, ms as u64);
     texts::put(text, number, b" ms")
@@ -102,55 +109,30 @@ fn put_ms(text: &mut [u8], at: usize, ms: u32) -> usize
 
 // Puts the lines of handle age, doors, gears and cause.
 fn put_rest(text: &mut [u8], at: usize, core: Core) -> usize
-    ensures { λ r. ⌜ Chain (now (text .entry)) at (restLines core) (now (text .exit)) r ⌝ }
+    ensures { λ r. ⌜ PutIfRoom (now (text .entry)) at (restLines core) (now (text .exit)) r ⌝ }
 {
     let place = core.place;
+    let named = texts::put(text, at, b"handle age: ");
+    let aged = put_ms(text, named, core.since);
+    let ended = texts::put(text, aged, b"\n");
+    let placed = put_place(text, ended, place);
+    let told = texts::put(text, placed, b"cause: ");
+    let said = put_cause(text, told, core.cause);
+    texts::put(text, said, b"\n")
+}
+
+// Puts the lines of doors and gears.
+fn put_place(text: &mut [u8], at: usize, place: Place) -> usize
+    ensures { λ r. ⌜ PutIfRoom (now (text .entry)) at (placeLines place) (now (text .exit)) r ⌝ }
+{
     let doors = place.doors;
     let gears = place.gears;
-    let since = since_line(text, at, core.since);
-    let doored = doors_line(text, since, doors);
-    let geared = gears_line(text, doored, gears);
-    cause_line(text, geared, core.cause)
-}
-
-// Puts the line of the handle's age.
-fn since_line(text: &mut [u8], at: usize, since: u32) -> usize
-    ensures { λ r. ⌜ Chain (now (text .entry)) at (line (ascii "handle age") (inMs since)) (now (text .exit)) r ⌝ }
-{
-    let named = texts::put(text, at, b"handle age");
-    let told = texts::put(text, named, b": ");
-    let said = put_ms(text, told, since);
-    texts::put(text, said, b"\n")
-}
-
-// Puts the line of the doors.
-fn doors_line(text: &mut [u8], at: usize, doors: Doors) -> usize
-    ensures { λ r. ⌜ Chain (now (text .entry)) at (line (ascii "doors") (doorsWord doors ∷ [])) (now (text .exit)) r ⌝ }
-{
-    let named = texts::put(text, at, b"doors");
-    let told = texts::put(text, named, b": ");
-    let said = names::put_doors(text, told, doors);
-    texts::put(text, said, b"\n")
-}
-
-// Puts the line of the gears.
-fn gears_line(text: &mut [u8], at: usize, gears: Gears) -> usize
-    ensures { λ r. ⌜ Chain (now (text .entry)) at (line (ascii "gears") (gearsWord gears ∷ [])) (now (text .exit)) r ⌝ }
-{
-    let named = texts::put(text, at, b"gears");
-    let told = texts::put(text, named, b": ");
-    let said = names::put_gears(text, told, gears);
-    texts::put(text, said, b"\n")
-}
-
-// Puts the line of the cause.
-fn cause_line(text: &mut [u8], at: usize, cause: u8) -> usize
-    ensures { λ r. ⌜ Chain (now (text .entry)) at (line (ascii "cause") (ofCause cause ∷ [])) (now (text .exit)) r ⌝ }
-{
-    let named = texts::put(text, at, b"cause");
-    let told = texts::put(text, named, b": ");
-    let said = put_cause(text, told, cause);
-    texts::put(text, said, b"\n")
+    let named = texts::put(text, at, b"doors: ");
+    let doored = names::put_doors(text, named, doors);
+    let ended = texts::put(text, doored, b"\n");
+    let named = texts::put(text, ended, b"gears: ");
+    let geared = names::put_gears(text, named, gears);
+    texts::put(text, geared, b"\n")
 }
 
 // Puts what is said of a cause.

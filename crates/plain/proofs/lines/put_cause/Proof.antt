@@ -7,23 +7,11 @@ use borrow.Author.Needs.{needs}
 use Rattle.plain.proofs.lines.put_cause.Statement.{statement}
 use Rattle.plain.proofs.lines.put_cause.Tie as tie
 
-put-cause-requires : tie.Need-put-cause-requires
-put-cause-requires c κs = search needs
-
-same-length : tie.Need-same-length
-same-length c = search needs
-
 returns : tie.Need-returns
 unfolding ofCause causeWords
 returns c =
     let said = c .before .before in
     rw (lt-ltb _ _ (said .before .before .if1 .taken)) (said .put-cause .ensures)
-
-put-number-requires : tie.Need-put-number-requires
-put-number-requires c κs = search needs
-
-same-length-2 : tie.Need-same-length-2
-same-length-2 c = search needs
 
 returns-2 : tie.Need-returns-2
 unfolding ofCause causeWords
@@ -32,6 +20,4 @@ returns-2 c =
     rw (le-ltb _ _ (said .before .before .if1 .left)) (said .put-number .ensures)
 
 pub put-cause-spec : {M : Type 1} → statement M
-put-cause-spec =
-    tie.close
-    (tie.spec put-cause-requires same-length returns put-number-requires same-length-2 returns-2)
+put-cause-spec = tie.close (tie.spec (λ c κs. search needs) (λ c. search needs) returns (λ c κs. search needs) (λ c. search needs) returns-2)

@@ -1,28 +1,17 @@
 -- `plain::lines::put_ms` meets its contract: a number and its unit.
 -- Assumes nothing.
-use Rattle.texts.specs.Chains.{put, done}
+use Rattle.texts.proofs.Pieces.{put, and}
+use Rattle.plain.specs.Plain.{inMs}
 use borrow.Author.Needs.{needs}
 use Rattle.plain.proofs.lines.put_ms.Statement.{statement}
 use Rattle.plain.proofs.lines.put_ms.Tie as tie
 
-put-number-requires : tie.Need-put-number-requires
-put-number-requires c κs = search needs
-
-slice-aggregate-put : tie.Need-slice-aggregate-put
-slice-aggregate-put c = search needs
-
-put-requires : tie.Need-put-requires
-put-requires c κs = search needs
-
-same-length : tie.Need-same-length
-same-length c = search needs
-
 returns : tie.Need-returns
+unfolding inMs
 returns c =
     let unit = c .before .before in
     let number = unit .before .before .before .before .before in
-    put (number .put-number .ensures) (put (unit .put .ensures) done)
+    and (put (number .put-number .ensures)) (put (unit .put .ensures))
 
 pub put-ms-spec : {M : Type 1} → statement M
-put-ms-spec =
-    tie.close (tie.spec put-number-requires slice-aggregate-put put-requires same-length returns)
+put-ms-spec = tie.close (tie.spec (λ c κs. search needs) (λ c. search needs) (λ c κs. search needs) (λ c. search needs) returns)

@@ -1,42 +1,14 @@
--- `plain::lines::put_on` meets its contract, by its two cases.
+-- `plain::lines::put_on` meets its contract: by its two cases.
 -- Assumes nothing.
 use borrow.Author.Needs.{needs}
 use Rattle.plain.proofs.lines.put_on.Statement.{statement}
 use Rattle.plain.proofs.lines.put_on.Tie as tie
 
-slice-aggregate-put : tie.Need-slice-aggregate-put
-slice-aggregate-put c = search needs
-
-put-requires : tie.Need-put-requires
-put-requires c κs = search needs
-
-same-length : tie.Need-same-length
-same-length c = search needs
-
 returns : tie.Need-returns
 returns c = let put = c .before .before in rw (put .before .before .before .if1 .taken) (put .put .ensures)
-
-slice-aggregate-put-2 : tie.Need-slice-aggregate-put-2
-slice-aggregate-put-2 c = search needs
-
-put-requires-2 : tie.Need-put-requires-2
-put-requires-2 c κs = search needs
-
-same-length-2 : tie.Need-same-length-2
-same-length-2 c = search needs
 
 returns-2 : tie.Need-returns-2
 returns-2 c = let put = c .before .before in rw (put .before .before .before .if1 .left) (put .put2 .ensures)
 
 pub put-on-spec : {M : Type 1} → statement M
-put-on-spec =
-    tie.close
-    (tie.spec
-    slice-aggregate-put
-    put-requires
-    same-length
-    returns
-    slice-aggregate-put-2
-    put-requires-2
-    same-length-2
-    returns-2)
+put-on-spec = tie.close (tie.spec (λ c. search needs) (λ c κs. search needs) (λ c. search needs) returns (λ c. search needs) (λ c κs. search needs) (λ c. search needs) returns-2)

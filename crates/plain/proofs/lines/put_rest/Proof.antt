@@ -1,42 +1,23 @@
--- `plain::lines::put_rest` meets its contract: the four lines, each after the one before.
+-- `plain::lines::put_rest` meets its contract: a line for the handle, those of the place, and one for the cause.
 -- Assumes nothing.
-use Rattle.texts.proofs.Chains.{and-then}
-use Rattle.plain.specs.Plain.{restLines}
+use Rattle.texts.proofs.Pieces.{put, and}
+use Rattle.plain.specs.Plain.{line, restLines}
 use borrow.Author.Needs.{needs}
 use Rattle.plain.proofs.lines.put_rest.Statement.{statement}
 use Rattle.plain.proofs.lines.put_rest.Tie as tie
 
-since-line-requires : tie.Need-since-line-requires
-since-line-requires c κs = search needs
-
-doors-line-requires : tie.Need-doors-line-requires
-doors-line-requires c κs = search needs
-
-gears-line-requires : tie.Need-gears-line-requires
-gears-line-requires c κs = search needs
-
-cause-line-requires : tie.Need-cause-line-requires
-cause-line-requires c κs = search needs
-
-same-length : tie.Need-same-length
-same-length c = search needs
-
 returns : tie.Need-returns
-unfolding restLines
+unfolding line restLines
 returns c =
-    let cause = c .before .before in
-    let gears = cause .before .before .before .before in
-    let doors = gears .before .before .before .before in
-    let since = doors .before .before .before .before in
-    and-then (and-then (and-then (since .since-line .ensures) (doors .doors-line .ensures)) (gears .gears-line .ensures)) (cause .cause-line .ensures)
+    let end = c .before .before in
+    let cause = end .before .before .before .before .before in
+    let cause-name = cause .before .before .before .before in
+    let place = cause-name .before .before .before .before .before in
+    let age-end = place .before .before .before .before in
+    let age = age-end .before .before .before .before .before in
+    let age-name = age .before .before .before .before in
+    and (and (and (and (put (age-name .put .ensures)) (age .put-ms .ensures)) (put (age-end .put2 .ensures))) (place .put-place .ensures))
+    (and (and (put (cause-name .put3 .ensures)) (put (cause .put-cause .ensures))) (put (end .put4 .ensures)))
 
 pub put-rest-spec : {M : Type 1} → statement M
-put-rest-spec =
-    tie.close
-    (tie.spec
-    since-line-requires
-    doors-line-requires
-    gears-line-requires
-    cause-line-requires
-    same-length
-    returns)
+put-rest-spec = tie.close (tie.spec (λ c. search needs) (λ c κs. search needs) (λ c κs. search needs) (λ c. search needs) (λ c κs. search needs) (λ c κs. search needs) (λ c. search needs) (λ c κs. search needs) (λ c κs. search needs) (λ c. search needs) (λ c κs. search needs) (λ c. search needs) returns)
