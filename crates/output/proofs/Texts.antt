@@ -1,7 +1,7 @@
 -- The texts of the rows are the pieces that the code puts together.
 -- Assumes nothing.
 use Prim.Native.Nat.{ℕ}
-use mathlib.Core.List.{List, [], _∷_, _++_, append-assoc, flatten}
+use mathlib.Core.List.{List, [], _∷_, _++_, append-assoc}
 use mathlib.Core.Path.{_≡_}
 use lib.ListN.{replicate}
 use Rattle.common.specs.Ascii.{comma, crlf, joinedByCommas}
@@ -24,6 +24,6 @@ unfolding refusalText
 refusal-text line refusal = two-fields (decimal line) (decimal refusal) _ _
 
 pub shown-text : (s : Shown)
-    → flatten (ordersPiece s ∷ doorsWord (s .doors) ∷ (comma ∷ []) ∷ gearsWord (s .gears) ∷ lightsPiece (s .lights) ∷ []) ≡ tailPiece (shownFields s)
-unfolding joinedByCommas flatten
+    → ordersPiece s ++ doorsWord (s .doors) ++ (comma ∷ []) ++ gearsWord (s .gears) ++ lightsPiece (s .lights) ≡ tailPiece (shownFields s)
+unfolding joinedByCommas
 shown-text s = simp append-assoc
