@@ -1,4 +1,3 @@
-pub mod Chains
 pub mod Once
 pub mod Pieces
 pub mod Placing
