@@ -1,4 +1,5 @@
 pub mod Once
 pub mod Sensors
 pub mod Sizes
+pub mod Texts
 pub mod Worked

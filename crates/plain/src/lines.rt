@@ -1,14 +1,15 @@
 // The lines of a controller in plain words (specs/Plain.antt), each put after the one before, piece by piece: every function puts its
 // piece if there is room for it, and the array that `crate::put` lends has room for all of them.
+ghost use mathlib.Core.List.{_++_};
 ghost use mathlib.Core.Path.{_≡_};
 ghost use Prim.Native.Nat.{_≤_};
 ghost use lib.ListN.{length};
+ghost use Rattle.common.specs.Ascii.{ascii};
 ghost use Rattle.names.specs.Words.{entry, sensorNames, orderNames};
 ghost use Rattle.texts.specs.Puts.{PutIfRoom, putOf};
 ghost use Rattle.plain.specs.Plain.{
   line,
   ofSensor,
-  inMs,
   onOrOff,
   ofOrder,
   ofCause,
@@ -82,29 +83,19 @@ fn order_line(text: &mut [u8], at: usize, k: usize, o: Order) -> usize
     ensures { λ r. ⌜ PutIfRoom (now (text .entry)) at (line (entry orderNames k) (ofOrder o)) (now (text .exit)) r ⌝ }
 {
     let named = names::put_order(text, at, k);
-    let told = texts::put(text, named, b": ");
-    let on = put_on(text, told, o.on);
-    let aged = texts::put(text, on, b", age ");
-    let said = put_ms(text, aged, o.age);
-    texts::put(text, said, b"\n")
+    let told = put_on(text, named, o.on);
+    let aged = texts::put_number(text, told, o.age as u64);
+    texts::put(text, aged, b" ms\n")
 }
 
-// Puts `on` or `off`.
+// Puts `on` or `off`, between the name and the age.
 fn put_on(text: &mut [u8], at: usize, on: bool) -> usize
-    ensures { λ r. ⌜ (r, now (text .exit)) ≡ putOf (now (text .entry)) at (onOrOff on) ⌝ }
+    ensures { λ r. ⌜ (r, now (text .exit)) ≡ putOf (now (text .entry)) at (ascii ": " ++ onOrOff on ++ ascii ", age ") ⌝ }
 {
     if on {
-        return texts::put(text, at, b"on");
+        return texts::put(text, at, b": on, age ");
     }
-    texts::put(text, at, b"off")
-}
-
-// Puts a time in ms.
-fn put_ms(text: &mut [u8], at: usize, ms: u32) -> usize
-    ensures { λ r. ⌜ PutIfRoom (now (text .entry)) at (inMs ms) (now (text .exit)) r ⌝ }
-{
-    let number = texts::put_number(text, at, ms as u64);
-    texts::put(text, number, b" ms")
+    texts::put(text, at, b": off, age ")
 }
 
 // Puts the lines of handle age, doors, gears and cause.
@@ -113,8 +104,8 @@ fn put_rest(text: &mut [u8], at: usize, core: Core) -> usize
 {
     let place = core.place;
     let named = texts::put(text, at, b"handle age: ");
-    let aged = put_ms(text, named, core.since);
-    let ended = texts::put(text, aged, b"\n");
+    let aged = texts::put_number(text, named, core.since as u64);
+    let ended = texts::put(text, aged, b" ms\n");
     let placed = put_place(text, ended, place);
     let told = texts::put(text, placed, b"cause: ");
     let said = put_cause(text, told, core.cause);
@@ -129,9 +120,8 @@ fn put_place(text: &mut [u8], at: usize, place: Place) -> usize
     let gears = place.gears;
     let named = texts::put(text, at, b"doors: ");
     let doored = names::put_doors(text, named, doors);
-    let ended = texts::put(text, doored, b"\n");
-    let named = texts::put(text, ended, b"gears: ");
-    let geared = names::put_gears(text, named, gears);
+    let next = texts::put(text, doored, b"\ngears: ");
+    let geared = names::put_gears(text, next, gears);
     texts::put(text, geared, b"\n")
 }
 
