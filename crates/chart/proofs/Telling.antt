@@ -66,5 +66,3 @@ pub named-fact-matters : (aim : Aim) (from : Place) (fact : Deciding) → decisi
 unfolding decisive
 named-fact-matters aim from fact e =
     subst (λ (f : Deciding). T (isNamed f) → T (decides aim from f)) e (picked-passes (decides aim from))
-
--- x

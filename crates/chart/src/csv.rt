@@ -11,9 +11,7 @@ use sequence::Aim;
 use sequence::Place;
 use sequence::Seen;
 use table::Asked;
-
-// There are so many entries.
-const ENTRIES: usize = 512;
+use table::ENTRIES;
 
 // The names of the fields.
 const HEADER: [u8; 180] = *b"entry,\

@@ -3,8 +3,8 @@
 use mathlib.Core.Bool.{Bool, false, _&&_, _||_}
 use mathlib.Core.List.{List}
 use Prim.Native.Nat.{ℕ, _+_, _*_}
-use lib.Dec.{eqb}
 use lib.ListN.{getD}
+use Rattle.common.specs.Bits.{isOne}
 use Rattle.common.specs.Lists.{some, eachFrom}
 use Rattle.voter.specs.declared.Voter.{Voter}
 use Rattle.voter.specs.Voting.{voted, freshWith, valueOf, isInvalid}
@@ -45,7 +45,7 @@ circuitPressurized = 17
 
 -- The channel whose byte stands at this place of the sample.
 abbrev pub channel : List ℕ → ℕ → Bool
-channel bytes at = eqb (getD bytes at 0) 1
+channel bytes at = isOne (getD bytes at 0)
 
 -- Three channels each, channels 1, 2, 3 side by side: sensor i votes over them.
 abbrev pub votesAt : List ℕ → ℕ → Voter → Voter

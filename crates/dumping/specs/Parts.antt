@@ -14,7 +14,7 @@ use Rattle.reading.specs.Parts.{newRun}
 use Rattle.reading.specs.Runs.{Teller, inRows, Answer, takeBy, finishBy, inAll}
 use Rattle.dump.specs.declared.Dump.{Dump}
 use Rattle.dump.specs.Wires.{wires}
-use Rattle.dump.specs.Dumps.{headText, momentText}
+use Rattle.dump.specs.Dumps.{headText, headLength, momentText}
 use Rattle.dump.specs.Writes.{startsWith, noTime}
 use Rattle.dumping.specs.declared.Waves.{Waves}
 use Rattle.dumping.specs.declared.Told.{Told}
@@ -64,7 +64,7 @@ inFront g out = (record { dump = g .0; written = length (g .1) }, g .1 ++ drop (
 
 -- The head of a dump has 1,078 bytes, and a moment at most 100.
 abbrev pub room : ℕ
-room = 1078
+room = headLength
 
 abbrev pub tookOf : Answer Dump → Took × List ℕ × List ℕ
 tookOf answer = (
@@ -88,6 +88,7 @@ finishOf waves line out = tookOf (finishBy given room (waves .dump) (waves .run)
 
 -- ---- All calls
 
+-- Each turn of a run is a call of `take` or `finish`: `takeOf` and `finishOf` are what `inAll` goes by, in the fields of the answer.
 -- What is written in all from a run and a line buffer on, with an output buffer for each turn.
 abbrev pub writtenInAll : (ℕ → List ℕ) → Waves → List ℕ → List (List ℕ) → List ℕ
 writtenInAll lends waves line parts = inAll given room lends (waves .dump) (waves .run) line parts .0

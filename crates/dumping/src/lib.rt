@@ -18,7 +18,7 @@ use reading::Phase;
 use reading::Run;
 
 // What is written of a row has at most so many bytes: the head of a dump.
-pub const ROOM: usize = 1078;
+pub const ROOM: usize = dump::HEAD_LENGTH;
 
 // A run under way, and the dump so far.
 pub struct Waves {

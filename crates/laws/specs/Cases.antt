@@ -105,7 +105,7 @@ causeAtOpen age =
 unfoldable pub causeAtHandle : ℕ → ℕ
 causeAtHandle since = stepFrom (coreFrom freshOrders since (place Closed Extended)) ToExtended false .cause
 
--- P11, P12: handle down. The doors after the step, by their number.
+-- P11, P12: handle down. The doors after the step, by K3's number: OPENING is 1, CLOSING is 3.
 unfoldable pub doorsDown : Place → List ℕ
 doorsDown p = doorsNumber (stepFrom (coreFrom (generalOnly 1000 1000) oldest p) ToExtended false .place .doors) ∷ []
 
@@ -125,8 +125,8 @@ stepCases =
     record { name = "P8 general stop at 999 and 1,000"; gives = generalAtOthers 999 ∷ generalAtOthers 1000 ∷ []; wanted = 1 ∷ 0 ∷ [] } ∷
     record { name = "P9 cause 2 at 6,999 and 7,000"; gives = causeAtOpen 6999 ∷ causeAtOpen 7000 ∷ []; wanted = 0 ∷ 2 ∷ [] } ∷
     record { name = "P10 switch open at handle age 999, 1,000, 19,999, 20,000: only the middle two"; gives = causeAtHandle 999 ∷ causeAtHandle 1000 ∷ causeAtHandle 19999 ∷ causeAtHandle 20000 ∷ []; wanted = 0 ∷ 11 ∷ 11 ∷ 0 ∷ [] } ∷
-    record { name = "P11 doors CLOSING, gears RETRACTED, handle down: OPENING"; gives = doorsDown (place Closing Retracted); wanted = doorsNumber Opening ∷ [] } ∷
-    record { name = "P12 doors OPENING, gears EXTENDED, handle down: CLOSING"; gives = doorsDown (place Opening Extended); wanted = doorsNumber Closing ∷ [] } ∷
+    record { name = "P11 doors CLOSING, gears RETRACTED, handle down: OPENING"; gives = doorsDown (place Closing Retracted); wanted = 1 ∷ [] } ∷
+    record { name = "P12 doors OPENING, gears EXTENDED, handle down: CLOSING"; gives = doorsDown (place Opening Extended); wanted = 3 ∷ [] } ∷
     []
 
 -- P1 to P12.

@@ -5,8 +5,9 @@ use mathlib.Core.List.{List, [], _∷_, _++_}
 use Prim.Native.Nat.{ℕ}
 use Prim.Native.String.{String}
 use lib.ListN.{take, drop, replicate}
-use Rattle.common.specs.Ascii.{ascii, ended}
+use Rattle.common.specs.Ascii.{ascii, cr, lf, ended}
 use Rattle.common.specs.Case.{Case}
+use Rattle.common.specs.Decimal.{digit0}
 use Rattle.lines.specs.Rows.{rowsOf}
 use Rattle.trace.specs.declared.Due.the-variants.{Label}
 use Rattle.trace.specs.Header.{headerText as traceHeader}
@@ -75,16 +76,16 @@ unfoldable pub early : List Case
 early =
     replays "no header" [] (output (ascii "1,5,,,,,,,,,," ∷ []))
     ∷ replays "a first row that is not the header" (ascii "Step" ++ drop 4 (traceOf [])) (output (ascii "1,5,,,,,,,,,," ∷ []))
-    ∷ replays "a first row of 513 bytes" (replicate 513 48) (output (ascii "1,6,,,,,,,,,," ∷ []))
+    ∷ replays "a first row of 513 bytes" (replicate 513 digit0) (output (ascii "1,6,,,,,,,,,," ∷ []))
     ∷ replays "the header alone, without its CRLF" traceHeader (output [])
     ∷ replays "the first label is 1" (traceOf ((ascii "1,1000," ++ atRest) ∷ [])) (output (ascii "2,7,,,,,,,,,," ∷ []))
     ∷ replays "a wrong label in a row that breaks the form" (traceOf (ascii "1,1000" ∷ row0 ∷ [])) (output (ascii "2,5,,,,,,,,,," ∷ []))
-    ∷ replays "a wrong label in a row of 513 bytes" (traceOf ((ascii "7," ++ replicate 511 48) ∷ [])) (output (ascii "2,6,,,,,,,,,," ∷ []))
-    ∷ replays "512 bytes and a lone CR" (traceOf (row0 ∷ (replicate 512 48 ++ 13 ∷ []) ∷ [])) (output (shown0 ∷ ascii "3,6,,,,,,,,,," ∷ []))
+    ∷ replays "a wrong label in a row of 513 bytes" (traceOf ((ascii "7," ++ replicate 511 digit0) ∷ [])) (output (ascii "2,6,,,,,,,,,," ∷ []))
+    ∷ replays "512 bytes and a lone CR" (traceOf (row0 ∷ (replicate 512 digit0 ++ cr ∷ []) ∷ [])) (output (shown0 ∷ ascii "3,6,,,,,,,,,," ∷ []))
     ∷ replays "an empty row at the end" (traceOf (row0 ∷ [] ∷ [])) (output (shown0 ∷ ascii "3,5,,,,,,,,,," ∷ []))
-    ∷ replays "a CR at the end" (traceOf [] ++ row0 ++ 13 ∷ []) (output (ascii "2,5,,,,,,,,,," ∷ []))
+    ∷ replays "a CR at the end" (traceOf [] ++ row0 ++ cr ∷ []) (output (ascii "2,5,,,,,,,,,," ∷ []))
     ∷ replays "a last row without its CRLF" (traceOf [] ++ row0) (output (shown0 ∷ []))
-    ∷ replays "a lone LF in front of a row" (traceOf ((10 ∷ row0) ∷ [])) (output (ascii "2,5,,,,,,,,,," ∷ []))
+    ∷ replays "a lone LF in front of a row" (traceOf ((lf ∷ row0) ∷ [])) (output (ascii "2,5,,,,,,,,,," ∷ []))
     ∷ replays "a label of 4,294,967,296" (traceOf (row0 ∷ (ascii "4294967296,1050," ++ atRest) ∷ [])) (output (shown0 ∷ ascii "3,5,,,,,,,,,," ∷ []))
     ∷ []
 

@@ -31,6 +31,7 @@ finishOf run line out = tookOf (finishBy textTold room Prim.tt run line out)
 
 -- ---- All calls
 
+-- Each turn of a run is a call of `take` or `finish`: `takeOf` and `finishOf` are what `inAll` goes by, in the fields of the answer.
 -- What is written in all from a run and a line buffer on, with an output buffer for each turn, and the run that is left of it.
 abbrev pub writtenInAll : (ℕ → List ℕ) → Run → List ℕ → List (List ℕ) → List ℕ
 writtenInAll lends run line parts = inAll textTold room lends Prim.tt run line parts .0

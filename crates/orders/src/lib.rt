@@ -67,34 +67,6 @@ impl Order {
     {
         !self.on & (ms <= self.age)
     }
-
-    // The order switched on or off: with age 0 where that changes it.
-    fn switched(self, on: bool) -> Self
-        ensures { λ r. ⌜ r ≡ switched on self ⌝ }
-    {
-        if on == self.on {
-            return self;
-        }
-        Order { on, age: 0 }
-    }
-
-    // One of the four after a step, by whether it is wanted, and by general_EV and its opposite as they stood before.
-    fn directed(self, wanted: bool, general: Order, opposite: Order) -> Self
-        ensures { λ r. ⌜ r ≡ directed wanted general opposite self ⌝ }
-    {
-        let starts = general.on_for(200) & opposite.off_for(100);
-        self.switched(wanted & (self.on | starts))
-    }
-
-    // General_EV after a step, by whether it is needed, and whether the four have been off for long enough.
-    fn general(self, needed: bool, stops: bool) -> Self
-        ensures { λ r. ⌜ r ≡ generalOf needed stops self ⌝ }
-    {
-        if self.on {
-            return self.switched(needed | !stops);
-        }
-        self.switched(needed)
-    }
 }
 
 impl Wanted {
@@ -125,16 +97,6 @@ impl Orders {
             retracts: self.retracts.grown(elapsed),
             extends: self.extends.grown(elapsed),
         }
-    }
-
-    // Whether all four others have been off for so long that general_EV may stop.
-    fn off_together(self) -> bool
-        ensures { λ r. ⌜ r ≡ offTogether self ⌝ }
-    {
-        self.closes.off_for(1000)
-            & self.opens.off_for(1000)
-            & self.retracts.off_for(1000)
-            & self.extends.off_for(1000)
     }
 
     // The orders of a step, from those before it with their ages grown, by the new doors, gears and anomaly.
@@ -202,5 +164,47 @@ fn extending(gears: Gears) -> bool
         Gears::Extending => true,
         Gears::Extended => false,
         Gears::Retracting => false,
+    }
+}
+
+impl Order {
+    // The order switched on or off: with age 0 where that changes it.
+    fn switched(self, on: bool) -> Self
+        ensures { λ r. ⌜ r ≡ switched on self ⌝ }
+    {
+        if on == self.on {
+            return self;
+        }
+        Order { on, age: 0 }
+    }
+
+    // One of the four after a step, by whether it is wanted, and by general_EV and its opposite as they stood before.
+    fn directed(self, wanted: bool, general: Order, opposite: Order) -> Self
+        ensures { λ r. ⌜ r ≡ directed wanted general opposite self ⌝ }
+    {
+        let starts = general.on_for(200) & opposite.off_for(100);
+        self.switched(wanted & (self.on | starts))
+    }
+
+    // General_EV after a step, by whether it is needed, and whether the four have been off for long enough.
+    fn general(self, needed: bool, stops: bool) -> Self
+        ensures { λ r. ⌜ r ≡ generalOf needed stops self ⌝ }
+    {
+        if self.on {
+            return self.switched(needed | !stops);
+        }
+        self.switched(needed)
+    }
+}
+
+impl Orders {
+    // Whether all four others have been off for so long that general_EV may stop.
+    fn off_together(self) -> bool
+        ensures { λ r. ⌜ r ≡ offTogether self ⌝ }
+    {
+        self.closes.off_for(1000)
+            & self.opens.off_for(1000)
+            & self.retracts.off_for(1000)
+            & self.extends.off_for(1000)
     }
 }

@@ -33,6 +33,7 @@ use Rattle.reading.specs.Runs.{
   Outcome,
   behind,
   inRows,
+  toCome,
   Answer,
   calls,
   lent,
@@ -79,10 +80,6 @@ module _ {A : Type 0} (tell : Teller A) (quiet : (a : A) (before after : State) 
         append-nil (told .1),
       )
 
-  -- What is still to come of a run, where `rest` is the input that follows: what the rows from the one under way on come to.
-  toCome : A → Run → List ℕ → List ℕ → Outcome A
-  toCome a run line rest = inRows tell a (run .reading) (rowsFrom (take (run .len) line) (run .cr) rest)
-
   -- ---- A call
 
   -- What a call of the reading comes to: nothing is refused, the line buffer stays as long as it was, of a part that is not empty some is
@@ -94,7 +91,7 @@ module _ {A : Type 0} (tell : Teller A) (quiet : (a : A) (before after : State) 
     forth : 0 < length part → 0 < next .0 .used
     same : (rest : List ℕ)
         → (let told = tell a (run .reading .state) (next .0 .came) (next .0 .run .reading .state) in
-        toCome a run line (part ++ rest) ≡ behind (told .1) (toCome (told .0) (next .0 .run) (next .1) (drop (next .0 .used) part ++ rest)))
+        toCome tell a run line (part ++ rest) ≡ behind (told .1) (toCome tell (told .0) (next .0 .run) (next .1) (drop (next .0 .used) part ++ rest)))
 
   module _ (a : A) (run : Run) (line : List ℕ) (h : length line ≡ lineBytes) where
     by-cut : (part : List ℕ) (r : Taken) (line′ : List ℕ) → (r, line′) ≡ cutOf part 0 line (run .len) (run .cr)
@@ -145,7 +142,7 @@ module _ {A : Type 0} (tell : Teller A) (quiet : (a : A) (before after : State) 
     by-last : (r : Final) (line′ : List ℕ) → (r, line′) ≡ lastOf line (run .len) (run .cr)
         → (let next = afterLast run (r, line′) .0 in
         let told = tell a (run .reading .state) (next .came) (next .run .reading .state) in
-        toCome a run line [] ≡ (told .1, told .0, next .run))
+        toCome tell a run line [] ≡ (told .1, told .0, next .run))
     unfolding toCome inRows
     by-last NoRow line′ e = rw (last-law line (run .len) (run .cr) NoRow line′ e .1)
     by-last (Last n) line′ e =
@@ -164,7 +161,7 @@ module _ {A : Type 0} (tell : Teller A) (quiet : (a : A) (before after : State) 
 
     finish-right : (let next = finishOf run line .0 in
         let told = tell a (run .reading .state) (next .came) (next .run .reading .state) in
-        toCome a run line [] ≡ (told .1, told .0, next .run))
+        toCome tell a run line [] ≡ (told .1, told .0, next .run))
     unfolding finishOf
     finish-right = rw (eq-eqb (length line) lineBytes h) (by-last _ _ refl)
 
@@ -184,7 +181,7 @@ module _ {A : Type 0} (tell : Teller A) (quiet : (a : A) (before after : State) 
 
   module _ (room : ℕ) (lends : ℕ → List ℕ) (rooms : AllRoom room lends) where
     in-turns : (turns : ℕ) (a : A) (run : Run) (line : List ℕ) (parts : List (List ℕ)) → length line ≡ lineBytes → turnsFor parts ≤ turns
-        → inTurns tell room lends turns a run line parts ≡ toCome a run line (inputOf parts)
+        → inTurns tell room lends turns a run line parts ≡ toCome tell a run line (inputOf parts)
     unfolding inTurns takeBy finishBy
     in-turns zero a run line [] h enough = absurd (omega arith)
     in-turns zero a run line (part ∷ parts) h enough = absurd (omega arith)
@@ -207,13 +204,18 @@ module _ {A : Type 0} (tell : Teller A) (quiet : (a : A) (before after : State) 
         (omega (arith, enough, fewer, right .forth (omega arith), right .inside)))
         ∙ sym (right .same (inputOf parts)))
 
-    -- However the input is cut into parts, with any line buffer of 512 bytes and any output buffers that have room: a run comes to what the
-    -- rows of the whole input come to.
+    -- However the input is cut into parts, with any line buffer of 512 bytes and any output buffers that have room: from any run under way, what
+    -- is written in all, carried on and left is what was to come of it.
+    pub by-parts-from : (a : A) (run : Run) (line : List ℕ) (parts : List (List ℕ)) → length line ≡ lineBytes
+        → inAll tell room lends a run line parts ≡ toCome tell a run line (inputOf parts)
+    by-parts-from a run line parts h = in-turns (turnsFor parts) a run line parts h (omega arith)
+
+    -- So a run from its start comes to what the rows of the whole input come to.
     pub by-parts : (a : A) (state : State) (line : List ℕ) (parts : List (List ℕ)) → length line ≡ lineBytes
         → inAll tell room lends a (runFrom state) line parts ≡ inRows tell a (readFrom state) (rowsOf (inputOf parts))
     unfolding runFrom toCome
     by-parts a state line parts h =
-        in-turns (turnsFor parts) a (runFrom state) line parts h (omega arith) ∙ rw (start-law (inputOf parts))
+        by-parts-from a (runFrom state) line parts h ∙ rw (start-law (inputOf parts))
 
     -- A program may stop where a refusal has ended the reading: whatever still follows, nothing more would be written, and what is carried on
     -- and the reading would stay.
@@ -222,5 +224,5 @@ module _ {A : Type 0} (tell : Teller A) (quiet : (a : A) (before after : State) 
         → inAll tell room lends a run line parts ≡ ([], a, between (run .reading))
     unfolding toCome
     ended-for-good a run line parts at refusal h e =
-        in-turns (turnsFor parts) a run line parts h (omega arith)
+        by-parts-from a run line parts h
         ∙ nothing-more a (run .reading) (after-refusal (run .reading) at refusal e) _

@@ -7,6 +7,7 @@ use mathlib.Core.Bool.{cond}
 use mathlib.Core.List.{List, [], _∷_, _++_}
 use lib.Dec.{ltb}
 use lib.ListN.{length, take, drop}
+use Rattle.lines.specs.Cuts.{rowsFrom}
 use Rattle.controller.specs.declared.State.{State}
 use Rattle.reading.specs.declared.Reading.{Reading}
 use Rattle.reading.specs.declared.Came.{Came}
@@ -83,6 +84,12 @@ takeBy tell room a run part line out = lent room a run line out (calls tell a ru
 -- The end of the input.
 unfoldable pub finishBy : {A : Type 0} → Teller A → ℕ → A → Run → List ℕ → List ℕ → Answer A
 finishBy tell room a run line out = lent room a run line out (calls tell a run (finishOf run line) out)
+
+-- ---- What is still to come
+
+-- From a run under way, with the input that follows: what the rows from the one under way on come to.
+unfoldable pub toCome : {A : Type 0} → Teller A → A → Run → List ℕ → List ℕ → Outcome A
+toCome tell a run line rest = inRows tell a (run .reading) (rowsFrom (take (run .len) line) (run .cr) rest)
 
 -- ---- All calls
 

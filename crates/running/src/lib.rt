@@ -10,6 +10,9 @@ use output::Written;
 use reading::Phase;
 use reading::Run;
 
+// A part of the input has at most so many bytes.
+const PART: usize = 8192;
+
 // A run after a turn: whether all went well, whether there is more to read, and the run.
 struct After {
     well: bool,
@@ -32,7 +35,7 @@ pub struct Place {
 // Runs the trace on standard input from a run at its start, through the line buffer that is lent, and puts out its rows behind the
 // output header, which comes first in every case.
 pub fn rows(name: &[u8], start: Run, line: &mut [u8]) {
-    let mut input = io::large_buffer();
+    let mut input = [0u8; PART];
     let mut out = io::large_buffer();
     if put_header(name, &mut out) {
         let ran = all(name, start, true, &mut input, line, &mut out);
@@ -45,7 +48,7 @@ pub fn rows(name: &[u8], start: Run, line: &mut [u8]) {
 
 // The same, and gives the run as it was left; no row is put out.
 pub fn to_its_end(name: &[u8], start: Run, line: &mut [u8]) -> Ran {
-    let mut input = io::large_buffer();
+    let mut input = [0u8; PART];
     let mut out = io::large_buffer();
     let ran = all(name, start, false, &mut input, line, &mut out);
     if ran.well {

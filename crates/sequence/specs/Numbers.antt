@@ -1,4 +1,4 @@
--- Request K4: the handle as a number. Request K3: doors and gears as numbers (0 to 3: CLOSED, OPENING, OPEN, CLOSING; RETRACTED, EXTENDING, EXTENDED, RETRACTING).
+-- Document 01, "The sample": the handle, 1 = down. Request K3: doors and gears as numbers (0 to 3: CLOSED, OPENING, OPEN, CLOSING; RETRACTED, EXTENDING, EXTENDED, RETRACTING).
 -- Assumes nothing.
 use Prim.Native.Nat.{ℕ}
 use mathlib.Core.Bool.{cond}

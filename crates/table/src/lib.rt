@@ -5,13 +5,16 @@ ghost use Prim.Native.Nat.{_<_, _/_, _%_};
 ghost use mathlib.Core.List.{[]};
 ghost use lib.ListN.{getD};
 ghost use Rattle.sequence.specs.Moves.{aimOf, moveOf};
-ghost use Rattle.table.specs.Table.{factsNumber, numberOf, factsAt, askedAt, nextOf, placeAt, table};
+ghost use Rattle.table.specs.Table.{entries, factsNumber, numberOf, factsAt, askedAt, nextOf, placeAt, table};
 ghost use Rattle.sequence.specs.Numbers.{handleNumber};
 use sequence::Aim;
 use sequence::Doors;
 use sequence::Gears;
 use sequence::Place;
 use sequence::Seen;
+
+// There are so many entries.
+pub const ENTRIES: usize = 512;
 
 // What the table is asked: handle, doors, gears, and what is seen.
 pub struct Asked {
@@ -220,7 +223,7 @@ fn place_at(entry: u8) -> Place
 
 // The entry of a number.
 fn entry(n: usize) -> u8
-    requires { ⌜ n < 512 ⌝ }
+    requires { ⌜ n < entries ⌝ }
     ensures { λ r. ⌜ r ≡ getD (getD table (n / 8) []) (n % 8) 0 ⌝ }
 {
     NEXT[n / 8][n % 8]

@@ -1,4 +1,4 @@
--- Worked examples of the rules: row 0 of Session S, and each edge of the form. Each is computed.
+-- Worked examples of the rules: a row in form, and each edge of the form. Each is computed.
 -- Assumes nothing.
 use mathlib.Core.Path.{_≡_, refl}
 use mathlib.Core.List.{List, [], _∷_, _++_, map}
@@ -14,7 +14,7 @@ use Rattle.trace.specs.Written.{tripleTexts, rowText}
 use Rattle.names.specs.Words.{sensorNames}
 use Rattle.trace.specs.Header.{headerNames, headerText}
 
--- Session S, row 0.
+-- A row in form.
 abbrev row0 : List ℕ
 row0 = ascii "0,1000,111,000,111,111,111,000,000,000,000,000,000,111,111,111,000,000,000,000"
 
@@ -33,13 +33,13 @@ sample0 =
 abbrev lent : List ℕ
 lent = replicate 54 9
 
-session-S-row-0 : readRow row0 (Label 0) lent ≡ (gives (0, 1000), sample0)
+row-is-read : readRow row0 (Label 0) lent ≡ (gives (0, 1000), sample0)
 unfolding fieldsOf triplesOf formOf inTurn readRow digitsFrom numberOf tripleOf
-session-S-row-0 = refl
+row-is-read = refl
 
-row-0-text : rowText 0 1000 sample0 ≡ row0
+row-is-written : rowText 0 1000 sample0 ≡ row0
 unfolding rowText tripleTexts decimal decimalUpTo joinedByCommas
-row-0-text = refl
+row-is-written = refl
 
 -- Label and stamp: "0 to 4,294,967,295, no sign, no leading zero; 0 is `0`".
 numbers :

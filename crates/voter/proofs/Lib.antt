@@ -2,4 +2,3 @@ pub mod Laws
 pub mod Numbering
 pub mod Mirrors
 pub mod Once
-pub mod Worked
