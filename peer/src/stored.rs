@@ -15,10 +15,11 @@ use std::io::{self, ErrorKind::NotFound};
 use std::path::Path;
 
 /// The groups of cases, in the words of `cases`, and the ending of what must be written.
-const GROUPS: [(&str, &str); 7] = [
+const GROUPS: [(&str, &str); 8] = [
     ("rows", "out"),
     ("dumps", "vcd"),
     ("values", "csv"),
+    ("broken", "csv"),
     ("images", "img"),
     ("onward", "out"),
     ("words", "txt"),
@@ -205,7 +206,8 @@ pub fn wanted(cases: &Path) -> io::Result<Files> {
     let dump = waves_bytes(&rules, &traces["session_s"]).0;
     store.case("values", "traces", "session_s", "the dump of Session S", sheet_bytes(&rules, &dump).0);
     for (name, why, dump) in dumps() {
-        store.case("values", "dumps", name, why, sheet_bytes(&rules, &dump).0);
+        let (rows, refused) = sheet_bytes(&rules, &dump);
+        store.case(if refused.is_some() { "broken" } else { "values" }, "dumps", name, why, rows);
         store.given("dumps", name, "vcd", dump);
     }
     for (name, shown, why) in IMAGES_OF_TRACES {

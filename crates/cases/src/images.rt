@@ -13,12 +13,11 @@ pub fn case(name: &[u8]) -> bool {
     shown(&image[..n], &stored[..m]) & files::both(name, b".img", b".txt")
 }
 
-// The controller that the image of a case holds: one byte more is read than an image has, so that a longer one is seen to be no image.
-pub fn start(name: &[u8]) -> State {
+// What loading the image of a case gives: one byte more is read than an image has, so that a longer one is seen to be no image.
+pub fn start(name: &[u8]) -> Answer {
     let mut image = [0u8; 205];
     let n = files::read(name, b".img", &mut image);
-    let answer = load(&image[..n]);
-    answer.state
+    load(&image[..n])
 }
 
 // Loads an image at its own stamp.
@@ -40,14 +39,14 @@ fn shown(image: &[u8], stored: &[u8]) -> bool {
 fn in_words(state: State, stored: &[u8]) -> bool {
     let mut out = io::buffer();
     let n = plain::put(&mut out, 0, state);
-    parts::is_all(stored, &out, n)
+    parts::is_all(stored, 0, &out, n)
 }
 
 // Whether a controller is saved as the image that it was loaded from.
 fn saved_again(state: State, image: &[u8]) -> bool {
     let mut out = [0u8; 204];
     let refusal = image::save(state, &mut out);
-    (refusal == 0) & check::same(&out, image)
+    parts::is_all(image, refusal, &out, image::SIZE)
 }
 
 // Whether the refusal is the one that is stored.

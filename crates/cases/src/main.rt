@@ -1,7 +1,8 @@
 // Runs stored cases and compares what is written with what is stored, byte for byte. The arguments are groups of cases, each behind
-// the word that says what is compared: rows:, dumps: (of traces), values: (of dumps), images: (that traces leave), onward: (rows from
-// an image), words: (of images) and table: (on the wall). A case is the name of its files without their endings. A line is written
-// for each case that differs, and for each group. What is taken in by parts is run in parts of 4,096 bytes and of seven.
+// the word that says what is compared: rows:, dumps: (of traces), values: (of dumps), broken: (the values before the 9 of what is no
+// dump), images: (that traces leave), onward: (rows from an image), words: (of images) and table: (on the wall). A case is the name of
+// its files without their endings. A line is written for each case that differs, or has a refusal that is not stored or lacks one
+// that is, and for each group. What is taken in by parts is run in parts of 4,096 bytes and of seven.
 mod files;
 mod images;
 mod parts;
@@ -75,11 +76,12 @@ fn letter_of(word: &[u8]) -> u8 {
 // Runs a case, and answers whether it was as stored.
 fn case(letter: u8, name: &[u8]) -> bool {
     match letter {
-        b'r' => rows::case(name, false),
+        b'r' => rows::fresh(name),
         b'd' => waves::case(name),
-        b'v' => sheets::case(name),
+        b'v' => sheets::case(name, 0),
+        b'b' => sheets::case(name, 9),
         b'i' => rows::saved(name),
-        b'o' => rows::case(name, true),
+        b'o' => rows::onward(name),
         b'w' => images::case(name),
         b't' => walls::case(name),
         _ => false,

@@ -41,20 +41,21 @@ pub fn first(n: usize, bytes: &[u8]) -> usize
     n
 }
 
-// Where the stored bytes go on when the first n bytes of `out` were written: they must be the next that are stored.
-pub fn stored_to(stored: &[u8], at: usize, out: &[u8], n: usize) -> usize {
+// Where the stored bytes go on when the first n bytes of `out` were written: they must be the next that are stored, and the call that
+// wrote them must not have been refused.
+pub fn stored_to(stored: &[u8], at: usize, refusal: u8, out: &[u8], n: usize) -> usize {
     if stored.len() < at {
         return NOWHERE;
     }
-    if agree(n, &stored[at..], out) {
+    if (refusal == 0) & agree(n, &stored[at..], out) {
         return std::num::wrapping_add_usize(at, n);
     }
     NOWHERE
 }
 
 // Whether all that is stored is what the first n bytes of `out` are.
-pub fn is_all(stored: &[u8], out: &[u8], n: usize) -> bool {
-    stored_to(stored, 0, out, n) == stored.len()
+pub fn is_all(stored: &[u8], refusal: u8, out: &[u8], n: usize) -> bool {
+    stored_to(stored, 0, refusal, out, n) == stored.len()
 }
 
 // How many bytes are left of the part that a place is in.

@@ -12,11 +12,16 @@ struct Left {
     run: Run,
 }
 
-// Whether the rows of a case are as stored.
-pub fn case(name: &[u8], onward: bool) -> bool {
-    let large = run(name, onward, false);
-    let small = run(name, onward, true);
-    large.same & small.same & files::both(name, b".in", b".out")
+// Whether the rows of a case are as stored, from a fresh start.
+pub fn fresh(name: &[u8]) -> bool {
+    case(name, Run::new())
+}
+
+// Whether they are from the image of the case, which must be taken.
+pub fn onward(name: &[u8]) -> bool {
+    let answer = images::start(name);
+    let state = answer.state;
+    (answer.refusal == 0) & case(name, Run::from(state))
 }
 
 // Whether its rows and its image are.
@@ -24,9 +29,16 @@ pub fn saved(name: &[u8]) -> bool {
     saves(name, false) & saves(name, true) & files::both(name, b".in", b".img")
 }
 
-// Whether they are in parts of one length.
+// Whether the rows of a case are as stored, from this start.
+fn case(name: &[u8], start: Run) -> bool {
+    let large = run(name, start, false);
+    let small = run(name, start, true);
+    large.same & small.same & files::both(name, b".in", b".out")
+}
+
+// Whether rows and image are in parts of one length.
 fn saves(name: &[u8], small: bool) -> bool {
-    let left = run(name, false, small);
+    let left = run(name, Run::new(), small);
     let last = left.run;
     left.same & leaves(last, name)
 }
@@ -37,24 +49,16 @@ fn leaves(run: Run, name: &[u8]) -> bool {
     let mut stored = [0u8; 205];
     let saved = handing::save_last(run, &mut image);
     let n = files::read(name, b".img", &mut stored);
-    parts::is_all(&stored[..n], &image, saved.written)
+    parts::is_all(&stored[..n], saved.refusal, &image, saved.written)
 }
 
 // Runs the trace of a case.
-fn run(name: &[u8], onward: bool, small: bool) -> Left {
+fn run(name: &[u8], start: Run, small: bool) -> Left {
     let mut trace = files::room();
     let mut stored = files::room();
     let n = files::read(name, b".in", &mut trace);
     let m = files::read(name, b".out", &mut stored);
-    runs(start(name, onward), &trace[..n], small, &stored[..m])
-}
-
-// The run at its start.
-fn start(name: &[u8], onward: bool) -> Run {
-    if onward {
-        return Run::from(images::start(name));
-    }
-    Run::new()
+    runs(start, &trace[..n], small, &stored[..m])
 }
 
 // A whole trace.
@@ -67,15 +71,15 @@ fn runs(start: Run, trace: &[u8], small: bool, stored: &[u8]) -> Left {
     while from < trace.len() {
         let end = parts::end(from, small, trace.len());
         let took = lesson::take(run, &trace[from..end], &mut line, &mut out);
-        at = parts::stored_to(stored, at, &out, took.written);
+        at = parts::stored_to(stored, at, took.refusal, &out, took.written);
         run = took.run;
         from = parts::after(from, took.used, trace.len());
     }
     let last = lesson::finish(run, &mut line, &mut out);
-    at = parts::stored_to(stored, at, &out, last.written);
+    at = parts::stored_to(stored, at, last.refusal, &out, last.written);
     let left = last.run;
     Left {
-        same: at == stored.len(),
+        same: (from == trace.len()) & (at == stored.len()),
         run: left,
     }
 }
@@ -85,7 +89,7 @@ fn header(stored: &[u8]) -> usize {
     let mut out = io::buffer();
     let header = output::write_header(&mut out);
     match header {
-        Written::Bytes(n) => parts::stored_to(stored, 0, &out, n),
+        Written::Bytes(n) => parts::stored_to(stored, 0, 0, &out, n),
         Written::NoRoom => parts::NOWHERE,
     }
 }

@@ -8,5 +8,5 @@ pub fn case(name: &[u8]) -> bool {
     let mut stored = io::large_buffer();
     let n = chart::csv::put_table(&mut out, 0);
     let m = files::read(name, b".csv", &mut stored);
-    (0 < n) & parts::is_all(&stored[..m], &out, n)
+    (0 < n) & parts::is_all(&stored[..m], 0, &out, n)
 }

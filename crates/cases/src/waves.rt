@@ -27,11 +27,11 @@ fn runs(trace: &[u8], small: bool, stored: &[u8]) -> bool {
     while from < trace.len() {
         let end = parts::end(from, small, trace.len());
         let took = waves.take(&trace[from..end], &mut line, &mut out);
-        at = parts::stored_to(stored, at, &out, took.written);
+        at = parts::stored_to(stored, at, took.refusal, &out, took.written);
         waves = took.waves;
         from = parts::after(from, took.used, trace.len());
     }
     let last = waves.finish(&mut line, &mut out);
-    at = parts::stored_to(stored, at, &out, last.written);
+    at = parts::stored_to(stored, at, last.refusal, &out, last.written);
     (from == trace.len()) & (at == stored.len())
 }

@@ -8,10 +8,10 @@ use Rattle.cases.proofs.sheets.runs.Statement.{statement}
 use Rattle.cases.proofs.sheets.runs.Tie as tie
 
 abbrev Inv-loop : tie.InvT-loop
-Inv-loop dump small stored reader₀ at₀ from₀ reader at from = 0 ≤ from
+Inv-loop dump refusal small stored reader₀ at₀ from₀ reader at from = 0 ≤ from
 
 abbrev μ-loop : tie.MeasureT-loop
-μ-loop dump small stored reader₀ at₀ from₀ reader at from = length dump - from
+μ-loop dump refusal small stored reader₀ at₀ from₀ reader at from = length dump - from
 
 new-requires : tie.Need-new-requires Inv-loop μ-loop
 new-requires c κs = search needs
