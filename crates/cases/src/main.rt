@@ -36,29 +36,39 @@ fn main() {
     total(group);
 }
 
-// Takes an argument: the name of a case, or the word of the next group.
+// Takes an argument.
 fn take(group: Group, i: usize) -> Group {
     let mut word = io::buffer();
     let n = os::arg(i, &mut word);
-    let name = &word[..n];
-    let letter = letter_of(name);
-    if letter != 0 {
-        total(group);
-        return Group {
-            letter,
-            head: i,
-            same: 0,
-        };
-    }
-    if case(group.letter, name) {
+    take_word(group, i, &word[..n])
+}
+
+// Takes the name of a case, or the word of the next group.
+fn take_word(group: Group, i: usize, word: &[u8]) -> Group {
+    let letter = letter_of(word);
+    if letter == 0 {
         return Group {
             letter: group.letter,
             head: group.head,
-            same: std::num::wrapping_add_u64(group.same, 1),
+            same: std::num::wrapping_add_u64(group.same, as_stored(group.letter, word)),
         };
     }
-    say(name);
-    group
+    total(group);
+    Group {
+        letter,
+        head: i,
+        same: 0,
+    }
+}
+
+// 1 for a case that is as stored; of any other it says that it differs.
+fn as_stored(letter: u8, name: &[u8]) -> u64 {
+    if case(letter, name) {
+        return 1;
+    }
+    io::write_all(STDOUT_FILENO, name);
+    io::write_all(STDOUT_FILENO, b" DIFFERS\n");
+    0
 }
 
 // The first letter of the word of a group, which ends in a colon; 0 for any other.
@@ -86,12 +96,6 @@ fn case(letter: u8, name: &[u8]) -> bool {
         b't' => walls::case(name),
         _ => false,
     }
-}
-
-// Says that a case differs.
-fn say(name: &[u8]) {
-    io::write_all(STDOUT_FILENO, name);
-    io::write_all(STDOUT_FILENO, b" DIFFERS\n");
 }
 
 // Says how many cases of a group were as stored.
