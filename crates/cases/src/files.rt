@@ -5,19 +5,19 @@ ghost use Rattle.io.specs.Counts.{Counts};
 use crate::parts;
 
 // Whether both files are there: what a case is run on, and what must be written.
-pub fn both(name: &[u8], given: &[u8], written: &[u8]) -> bool {
+pub(crate) fn both(name: &[u8], given: &[u8], written: &[u8]) -> bool {
     has(name, given) & has(name, written)
 }
 
 // Room for any file.
-pub fn room() -> [u8; 327680]
+pub(crate) fn room() -> [u8; 327680]
     ensures { λ r. ⌜ 327680 ≡ length r ⌝ }
 {
     [0; 327680]
 }
 
 // Reads the file with this ending, and answers how many bytes it has.
-pub fn read(name: &[u8], ending: &[u8], into: &mut [u8]) -> usize
+pub(crate) fn read(name: &[u8], ending: &[u8], into: &mut [u8]) -> usize
     ensures { λ r. ⌜ Counts r (now (into .exit)) ⌝ }
 {
     let fd = open(name, ending);
@@ -27,7 +27,7 @@ pub fn read(name: &[u8], ending: &[u8], into: &mut [u8]) -> usize
 }
 
 // Whether it is there.
-pub fn has(name: &[u8], ending: &[u8]) -> bool {
+pub(crate) fn has(name: &[u8], ending: &[u8]) -> bool {
     let fd = open(name, ending);
     libc::close(fd);
     0 <= fd

@@ -5,8 +5,8 @@ use controller::Answer;
 use controller::State;
 
 // Whether a case is as stored.
-pub fn case(name: &[u8]) -> bool {
-    let mut image = [0u8; 205];
+pub(crate) fn case(name: &[u8]) -> bool {
+    let mut image = [0u8; image::SIZE + 1];
     let mut stored = io::buffer();
     let n = files::read(name, b".img", &mut image);
     let m = files::read(name, b".txt", &mut stored);
@@ -14,8 +14,8 @@ pub fn case(name: &[u8]) -> bool {
 }
 
 // What loading the image of a case gives: one byte more is read than an image has, so that a longer one is seen to be no image.
-pub fn start(name: &[u8]) -> Answer {
-    let mut image = [0u8; 205];
+pub(crate) fn start(name: &[u8]) -> Answer {
+    let mut image = [0u8; image::SIZE + 1];
     let n = files::read(name, b".img", &mut image);
     load(&image[..n])
 }
@@ -44,7 +44,7 @@ fn in_words(state: State, stored: &[u8]) -> bool {
 
 // Whether a controller is saved as the image that it was loaded from.
 fn saved_again(state: State, image: &[u8]) -> bool {
-    let mut out = [0u8; 204];
+    let mut out = [0u8; image::SIZE];
     let refusal = image::save(state, &mut out);
     parts::is_all(image, refusal, &out, image::SIZE)
 }

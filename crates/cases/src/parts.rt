@@ -32,7 +32,7 @@ pub(crate) fn after(from: usize, used: usize, n: usize) -> usize
 }
 
 // The first n bytes of a buffer, or none where it has fewer: how many.
-pub fn first(n: usize, bytes: &[u8]) -> usize
+pub(crate) fn first(n: usize, bytes: &[u8]) -> usize
     ensures { λ r. ⌜ Counts r (now (bytes .entry)) ⌝ }
 {
     if bytes.len() < n {
@@ -43,7 +43,7 @@ pub fn first(n: usize, bytes: &[u8]) -> usize
 
 // Where the stored bytes go on when the first n bytes of `out` were written: they must be the next that are stored, and the call that
 // wrote them must not have been refused.
-pub fn stored_to(stored: &[u8], at: usize, refusal: u8, out: &[u8], n: usize) -> usize {
+pub(crate) fn stored_to(stored: &[u8], at: usize, refusal: u8, out: &[u8], n: usize) -> usize {
     if stored.len() < at {
         return NOWHERE;
     }
@@ -54,7 +54,7 @@ pub fn stored_to(stored: &[u8], at: usize, refusal: u8, out: &[u8], n: usize) ->
 }
 
 // Whether all that is stored is what the first n bytes of `out` are.
-pub fn is_all(stored: &[u8], refusal: u8, out: &[u8], n: usize) -> bool {
+pub(crate) fn is_all(stored: &[u8], refusal: u8, out: &[u8], n: usize) -> bool {
     stored_to(stored, 0, refusal, out, n) == stored.len()
 }
 

@@ -13,19 +13,19 @@ struct Left {
 }
 
 // Whether the rows of a case are as stored, from a fresh start.
-pub fn fresh(name: &[u8]) -> bool {
+pub(crate) fn fresh(name: &[u8]) -> bool {
     case(name, Run::new())
 }
 
 // Whether they are from the image of the case, which must be taken.
-pub fn onward(name: &[u8]) -> bool {
+pub(crate) fn onward(name: &[u8]) -> bool {
     let answer = images::start(name);
     let state = answer.state;
     (answer.refusal == 0) & case(name, Run::from(state))
 }
 
 // Whether its rows and its image are.
-pub fn saved(name: &[u8]) -> bool {
+pub(crate) fn saved(name: &[u8]) -> bool {
     saves(name, false) & saves(name, true) & files::both(name, b".in", b".img")
 }
 
@@ -45,8 +45,8 @@ fn saves(name: &[u8], small: bool) -> bool {
 
 // Whether the image of the last state is as stored.
 fn leaves(run: Run, name: &[u8]) -> bool {
-    let mut image = [0u8; 204];
-    let mut stored = [0u8; 205];
+    let mut image = [0u8; image::SIZE];
+    let mut stored = [0u8; image::SIZE + 1];
     let saved = handing::save_last(run, &mut image);
     let n = files::read(name, b".img", &mut stored);
     parts::is_all(&stored[..n], saved.refusal, &image, saved.written)

@@ -6,7 +6,7 @@ use readback::Took;
 use readback::sheets;
 
 // Whether a case is as stored, and ends in this refusal: 0, or 9 for what is no dump.
-pub fn case(name: &[u8], refusal: u8) -> bool {
+pub(crate) fn case(name: &[u8], refusal: u8) -> bool {
     run(name, refusal, false) & run(name, refusal, true) & files::both(name, b".vcd", b".csv")
 }
 

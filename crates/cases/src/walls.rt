@@ -3,7 +3,7 @@ use crate::files;
 use crate::parts;
 
 // Whether a case is as stored.
-pub fn case(name: &[u8]) -> bool {
+pub(crate) fn case(name: &[u8]) -> bool {
     let mut out = io::large_buffer();
     let mut stored = io::large_buffer();
     let n = chart::csv::put_table(&mut out, 0);

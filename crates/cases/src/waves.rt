@@ -4,7 +4,7 @@ use crate::parts;
 use dumping::Waves;
 
 // Whether a case is as stored.
-pub fn case(name: &[u8]) -> bool {
+pub(crate) fn case(name: &[u8]) -> bool {
     run(name, false) & run(name, true) & files::both(name, b".in", b".vcd")
 }
 

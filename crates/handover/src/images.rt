@@ -8,7 +8,7 @@ pub struct Loaded {
 }
 
 // Loads the image that argument 2 names, or says why not.
-pub fn named(name: &[u8]) -> Loaded {
+pub(crate) fn named(name: &[u8]) -> Loaded {
     let mut path = io::buffer();
     let n = os::arg(2, &mut path);
     let fd = os::open_read(&path[..n]);

@@ -123,14 +123,15 @@ pub fn read_row(row: &[u8], due: Due, sample: &mut [u8]) -> Row
     answer
 }
 
-// Whether a row is the header of a trace.
+// Whether a row is the header of a trace. (Its text stands here as it is: put together from `names`, it costs each row of a trace some
+// 75 instructions.)
 pub fn is_header(row: &[u8]) -> bool
     ensures { λ r. ⌜ r ≡ sameText (now (row .entry)) headerText ⌝ }
 {
-    let mut header = [0u8; 353];
-    let named = texts::put(&mut header, 0, b"step,stamp,");
-    names::put_sensor_names(&mut header, named);
-    check::same(row, &header)
+    check::same(
+        row,
+        b"step,stamp,handle,analogical_switch,gear_extended_front,gear_extended_left,gear_extended_right,gear_retracted_front,gear_retracted_left,gear_retracted_right,gear_shock_absorber_front,gear_shock_absorber_left,gear_shock_absorber_right,door_closed_front,door_closed_left,door_closed_right,door_open_front,door_open_left,door_open_right,circuit_pressurized",
+    )
 }
 
 // A digit 0 or 1.
