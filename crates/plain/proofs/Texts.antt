@@ -1,14 +1,24 @@
 -- Lines that the code puts together of other pieces than the rule does: a piece goes on past what is said, or on to the next line.
 -- Assumes nothing.
-use Prim.Native.Nat.{ℕ}
+use Prim.Native.Nat.{ℕ, _+_}
 use mathlib.Core.List.{List, [], _∷_, _++_, append-assoc}
 use mathlib.Core.Path.{_≡_}
 use Rattle.common.specs.Ascii.{ascii, lf}
-use Rattle.common.specs.Decimal.{decimal}
+use Rattle.common.specs.Bits.{bit}
+use Rattle.common.specs.Decimal.{decimal, digit0}
+use Rattle.voter.specs.declared.Voter.{Voter}
+use Rattle.voter.specs.Voting.{valueOf}
+use Rattle.voter.specs.Numbers.{numberOf}
 use Rattle.sequence.specs.declared.Place.{Place}
 use Rattle.orders.specs.declared.Order.{Order}
-use Rattle.names.specs.Words.{doorsWord, gearsWord}
-use Rattle.plain.specs.Plain.{line, inMs, onOrOff, ofOrder, placeLines}
+use Rattle.names.specs.Words.{entry, voterWords, doorsWord, gearsWord}
+use Rattle.plain.specs.Plain.{line, ofSensor, inMs, onOrOff, ofOrder, placeLines}
+
+-- A value, and the line's end.
+pub sensor-text : (name : List ℕ) (v : Voter)
+    → name ++ ascii ": " ++ (entry voterWords (numberOf v) ++ (ascii ", held " ++ (digit0 + bit (valueOf v)) ∷ lf ∷ [])) ≡ line name (ofSensor v)
+unfolding line ofSensor
+sensor-text name v = simp append-assoc
 
 -- A time, and the line's end.
 abbrev timed : ℕ → List ℕ

@@ -1,27 +1,23 @@
 -- `plain::lines::sensor_line` meets its contract: name, colon, voter, value and LF.
 -- Assumes nothing.
-use Rattle.texts.proofs.Pieces.{put, and}
-use Rattle.plain.specs.Plain.{line, ofSensor}
+use Rattle.texts.proofs.Pieces.{same, put, and}
+use Rattle.plain.proofs.Texts.{sensor-text}
 use borrow.Author.Needs.{needs}
 use Rattle.plain.proofs.lines.sensor_line.Statement.{statement}
 use Rattle.plain.proofs.lines.sensor_line.Tie as tie
 
 returns : tie.Need-returns
-unfolding line ofSensor
 returns c =
-    let end = c .before .before in
-    let valued = end .before .before .before .before .before in
-    let held = valued .before .before .before .before .before in
+    let held = c .before .before in
     let voter = held .before .before .before .before .before in
     let number = voter .before in
     let told = number .before .before .before .before in
     let name = told .before .before .before .before .before in
     let byte = name .before .before in
     let value = byte .before in
-    rw (← number .number .ensures, ← value .value .ensures, ← byte .on-off .ensures)
-    (and (and (and (put (name .put-sensor .ensures)) (put (told .put .ensures)))
-    (and (and (put (voter .put-voter .ensures)) (put (held .put2 .ensures))) (put (valued .put3 .ensures))))
-    (put (end .put4 .ensures)))
+    same (sensor-text _ (value .before .before .args .v))
+    (rw (← number .number .ensures, ← value .value .ensures, ← byte .on-off .ensures)
+    (and (and (put (name .put-sensor .ensures)) (put (told .put .ensures))) (and (put (voter .put-voter .ensures)) (put (held .put2 .ensures)))))
 
 pub sensor-line-spec : {M : Type 1} → statement M
-sensor-line-spec = tie.close (tie.spec (λ c κs. search needs) (λ c κs. search needs) (λ c κs. search needs) (λ c. search needs) (λ c κs. search needs) (λ c κs. search needs) (λ c. search needs) (λ c κs. search needs) (λ c. search needs) (λ c κs. search needs) (λ c. search needs) (λ c κs. search needs) (λ c. search needs) (λ c κs. search needs) (λ c. search needs) returns)
+sensor-line-spec = tie.close (tie.spec (λ c κs. search needs) (λ c κs. search needs) (λ c κs. search needs) (λ c. search needs) (λ c κs. search needs) (λ c κs. search needs) (λ c. search needs) (λ c κs. search needs) (λ c. search needs) (λ c κs. search needs) (λ c. search needs) returns)
