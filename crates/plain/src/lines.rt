@@ -58,21 +58,12 @@ fn put_sensors(text: &mut [u8], at: usize, voters: [Voter; 18]) -> usize
 fn sensor_line(text: &mut [u8], at: usize, k: usize, v: Voter) -> usize
     ensures { λ r. ⌜ PutIfRoom (now (text .entry)) at (line (entry sensorNames k) (ofSensor v)) (now (text .exit)) r ⌝ }
 {
-    let held = [
-        b',',
-        b' ',
-        b'h',
-        b'e',
-        b'l',
-        b'd',
-        b' ',
-        texts::on_off(v.value()),
-        b'\n',
-    ];
+    let value = [texts::on_off(v.value()), b'\n'];
     let named = names::put_sensor(text, at, k);
     let told = texts::put(text, named, b": ");
     let voter = names::put_voter(text, told, v.number() as usize);
-    texts::put(text, voter, &held)
+    let held = texts::put(text, voter, b", held ");
+    texts::put(text, held, &value)
 }
 
 // Puts the lines of the orders, as in the output row.
