@@ -257,7 +257,7 @@ enum Fail {
     Stopped(Stopped),
 }
 
-/// A dump, read byte by byte in bounded memory and refused at the first byte that cannot be.
+/// A dump, read byte by byte in bounded memory and refused where it can be none.
 struct Reader<R> {
     input: R,
     buf: Vec<u8>,
