@@ -6,8 +6,6 @@ use mathlib.Core.List.{List, [], _∷_}
 use mathlib.Core.Path.{_≡_, refl}
 use lib.ListN.{length}
 use Rattle.common.specs.Ascii.{joinedByCommas}
-use Rattle.sequence.specs.declared.Aim.{Aim}
-use Rattle.sequence.specs.declared.Aim.the-variants.{ToRetracted, ToExtended}
 use Rattle.sequence.specs.declared.Doors.{Doors}
 use Rattle.sequence.specs.declared.Doors.the-variants.{Closed, Opening, Open, Closing}
 use Rattle.sequence.specs.declared.Gears.{Gears}
@@ -40,14 +38,6 @@ pub sensor-length : (k : ℕ) → length (entry sensorNames k) ≤ 25
 unfolding sensorNames
 sensor-length k = to-longest sensorNames k
 
-pub order-length : (k : ℕ) → length (entry orderNames k) ≤ 10
-unfolding orderNames
-order-length k = to-longest orderNames k
-
-pub lamp-length : (k : ℕ) → length (entry lampNames k) ≤ 6
-unfolding lampNames
-lamp-length k = to-longest lampNames k
-
 pub voter-length : (k : ℕ) → length (entry voterWords k) ≤ 18
 unfolding voterWords
 voter-length k = to-longest voterWords k
@@ -69,10 +59,6 @@ gears-length Retracted = omega arith
 gears-length Extending = omega arith
 gears-length Extended = omega arith
 gears-length Retracting = omega arith
-
-pub handle-length : (aim : Aim) → length (handleWord aim) ≤ 4
-handle-length ToRetracted = omega arith
-handle-length ToExtended = omega arith
 
 -- ---- All of a list, with commas
 
