@@ -5,7 +5,7 @@ use mathlib.Core.Bool.{false, not}
 use mathlib.Core.List.{List, [], _∷_}
 use mathlib.Core.Path.{_≡_, _∙_, ap, subst⁻¹}
 use Prim.Native.Nat.{ℕ, _+_, _≤_, _<_}
-use native.Mathlib.Nat.{zero-add, le-trans}
+use native.Mathlib.Nat.{zero-add}
 use native.Mathlib.Omega.{arith}
 use lib.Dec.{T, T-not}
 use Rattle.sequence.specs.declared.Aim.{Aim}
@@ -121,7 +121,11 @@ unfolding coreAfter
 core-unsettled-is-early limit aim c sound first rest within u =
     let next : Core = coreNext aim c first in
     let landed = first-step aim c first (unsettled-before aim next rest u) sound in
-    le-trans (early-from limit aim (landed .0) next rest within (landed .1) u) (left-most limit (facing aim (next .orders)) (landed .0))
+    omega (
+      arith,
+      early-from limit aim (landed .0) next rest within (landed .1) u,
+      left-most limit (facing aim (next .orders)) (landed .0),
+    )
 
 pub core-demand-3 : (limit : ℕ) → 0 < limit → OfEveryCoreRun limit (SettledWithin (boundFor limit))
 core-demand-3 limit positive aim c sound first rest within late =
