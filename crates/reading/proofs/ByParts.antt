@@ -34,6 +34,7 @@ use Rattle.reading.specs.Runs.{
   behind,
   inRows,
   toCome,
+  Right,
   Answer,
   calls,
   lent,
@@ -82,20 +83,9 @@ module _ {A : Type 0} (tell : Teller A) (quiet : (a : A) (before after : State) 
 
   -- ---- A call
 
-  -- What a call of the reading comes to: nothing is refused, the line buffer stays as long as it was, of a part that is not empty some is
-  -- used, and what is to come stays the same behind what is written.
-  record Right (a : A) (run : Run) (part line : List ℕ) (next : Next × List ℕ) : Type 0 where
-    taken : next .0 .refusal ≡ 0
-    full : length (next .1) ≡ lineBytes
-    inside : next .0 .used ≤ length part
-    forth : 0 < length part → 0 < next .0 .used
-    same : (rest : List ℕ)
-        → (let told = tell a (run .reading .state) (next .0 .came) (next .0 .run .reading .state) in
-        toCome tell a run line (part ++ rest) ≡ behind (told .1) (toCome tell (told .0) (next .0 .run) (next .1) (drop (next .0 .used) part ++ rest)))
-
   module _ (a : A) (run : Run) (line : List ℕ) (h : length line ≡ lineBytes) where
     by-cut : (part : List ℕ) (r : Taken) (line′ : List ℕ) → (r, line′) ≡ cutOf part 0 line (run .len) (run .cr)
-        → Right a run part line (afterCut run (length part) (r, line′))
+        → Right tell a run part line (afterCut run (length part) (r, line′))
     unfolding toCome inRows
     by-cut part (Row used n) line′ e =
         let l = cut-law part 0 line (run .len) (run .cr) (Row used n) line′ e in
@@ -134,7 +124,8 @@ module _ {A : Type 0} (tell : Teller A) (quiet : (a : A) (before after : State) 
               );
         }
 
-    take-right : (part : List ℕ) → Right a run part line (takeOf run part line)
+    -- Of any run under way: a call writes what was to come, and the rest is still to come.
+    pub take-right : (part : List ℕ) → Right tell a run part line (takeOf run part line)
     unfolding takeOf
     take-right part = rw (eq-eqb (length line) lineBytes h) (by-cut part _ _ refl)
 
@@ -159,11 +150,18 @@ module _ {A : Type 0} (tell : Teller A) (quiet : (a : A) (before after : State) 
         let l = last-law line (run .len) (run .cr) Wider line′ e in
         starts-over a (run .reading) (rowsFrom (take (run .len) line) (run .cr) []) (rw (l .0 ∙ h) at (l .1))
 
-    finish-right : (let next = finishOf run line .0 in
+    -- The end of the input gives all that was to come.
+    pub finish-right : (let next = finishOf run line .0 in
         let told = tell a (run .reading .state) (next .came) (next .run .reading .state) in
         toCome tell a run line [] ≡ (told .1, told .0, next .run))
     unfolding finishOf
     finish-right = rw (eq-eqb (length line) lineBytes h) (by-last _ _ refl)
+
+  -- Where a refusal has ended the reading nothing is to come, whatever follows.
+  pub ended-nothing-to-come : (a : A) (run : Run) (line rest : List ℕ) (at refusal : ℕ) → run .reading .phase ≡ Ended at refusal
+      → toCome tell a run line rest ≡ ([], a, between (run .reading))
+  unfolding toCome
+  ended-nothing-to-come a run line rest at refusal e = nothing-more a (run .reading) (after-refusal (run .reading) at refusal e) _
 
   -- ---- The output buffers
 
@@ -222,7 +220,5 @@ module _ {A : Type 0} (tell : Teller A) (quiet : (a : A) (before after : State) 
     pub ended-for-good : (a : A) (run : Run) (line : List ℕ) (parts : List (List ℕ)) (at refusal : ℕ) → length line ≡ lineBytes
         → run .reading .phase ≡ Ended at refusal
         → inAll tell room lends a run line parts ≡ ([], a, between (run .reading))
-    unfolding toCome
     ended-for-good a run line parts at refusal h e =
-        by-parts-from a run line parts h
-        ∙ nothing-more a (run .reading) (after-refusal (run .reading) at refusal e) _
+        by-parts-from a run line parts h ∙ ended-nothing-to-come a run line (inputOf parts) at refusal e

@@ -2,9 +2,10 @@
 -- taken in row by row until it is used up, and then the end of the input. Each call has the run and the line buffer that the one before it
 -- left, and an output buffer of its own.
 -- Assumes nothing.
-use Prim.Native.Nat.{ℕ, zero, suc, _+_, _≤_}
+use Prim.Native.Nat.{ℕ, zero, suc, _+_, _≤_, _<_}
 use mathlib.Core.Bool.{cond}
 use mathlib.Core.List.{List, [], _∷_, _++_}
+use mathlib.Core.Path.{_≡_}
 use lib.Dec.{ltb}
 use lib.ListN.{length, take, drop}
 use Rattle.lines.specs.Cuts.{rowsFrom}
@@ -15,7 +16,7 @@ use Rattle.reading.specs.declared.Heard.{Heard}
 use Rattle.reading.specs.declared.Run.{Run}
 use Rattle.reading.specs.declared.Next.{Next}
 use Rattle.reading.specs.Rows.{rowOf, endOf}
-use Rattle.reading.specs.Parts.{between, takeOf, finishOf}
+use Rattle.reading.specs.Parts.{lineBytes, between, takeOf, finishOf}
 
 -- ---- What is made of a row
 
@@ -90,6 +91,17 @@ finishBy tell room a run line out = lent room a run line out (calls tell a run (
 -- From a run under way, with the input that follows: what the rows from the one under way on come to.
 unfoldable pub toCome : {A : Type 0} → Teller A → A → Run → List ℕ → List ℕ → Outcome A
 toCome tell a run line rest = inRows tell a (run .reading) (rowsFrom (take (run .len) line) (run .cr) rest)
+
+-- What is right of a call of the reading: nothing is refused, the line buffer stays as long as it was, of a part that is not empty some is
+-- used, and what was to come is what is written and what is still to come.
+pub record Right {A : Type 0} (tell : Teller A) (a : A) (run : Run) (part line : List ℕ) (next : Next × List ℕ) : Type 0 where
+  pub taken : next .0 .refusal ≡ 0
+  pub full : length (next .1) ≡ lineBytes
+  pub inside : next .0 .used ≤ length part
+  pub forth : 0 < length part → 0 < next .0 .used
+  pub same : (rest : List ℕ)
+      → (let told = tell a (run .reading .state) (next .0 .came) (next .0 .run .reading .state) in
+      toCome tell a run line (part ++ rest) ≡ behind (told .1) (toCome tell (told .0) (next .0 .run) (next .1) (drop (next .0 .used) part ++ rest)))
 
 -- ---- All calls
 
