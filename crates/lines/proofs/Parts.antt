@@ -2,71 +2,35 @@
 -- to the first that is longer than the line. By induction over the run, each step by the law of its answer.
 -- Assumes nothing.
 use Prim.Native.Nat.{ℕ, zero, suc, _-_, _<_, _≤_}
-use mathlib.Core.Bool.{Bool, false, cond}
+use mathlib.Core.Bool.{Bool, false}
 use mathlib.Core.List.{List, [], _∷_, _++_}
-use mathlib.Core.Option.{Option, none, some}
 use mathlib.Core.Path.{_≡_, refl, sym, ap, subst}
 use native.Mathlib.Omega.{arith}
 use borrow.Author.Tests.{lt-ltb, le-ltb}
-use lib.Dec.{ltb}
 use lib.ListN.{length, take, drop, length-take}
+use Rattle.common.specs.Answers.{Answer, gives, refuses}
 use Rattle.lines.specs.Rows.{rowsOf}
 use Rattle.lines.specs.Cuts.{rowsFrom, cutOf, lastOf}
+use Rattle.lines.specs.Answers.{overLine, finalSays}
+use Rattle.lines.specs.Runs.{upTo, joined, rowIn, Run}
+use Rattle.lines.specs.Runs.Run.{row, more, over, ended}
 use Rattle.lines.specs.declared.Taken.{Taken}
 use Rattle.lines.specs.declared.Taken.the-variants.{Row, More, Over}
 use Rattle.lines.specs.declared.Final.{Final}
 use Rattle.lines.specs.declared.Final.the-variants.{Nothing, Last, Wider}
 use Rattle.lines.proofs.Law.{StartsOver, LastTold, cut-law, last-law, start-law}
 
--- The rows up to the first that is over `most` bytes, which stands as `none`.
-pub upTo : ℕ → List (List ℕ) → List (Option (List ℕ))
-upTo most [] = []
-upTo most (r ∷ rows) = cond (ltb most (length r)) (none ∷ []) (some r ∷ upTo most rows)
-
--- All parts as one.
-abbrev pub joined : List (List ℕ) → List ℕ
-joined [] = []
-joined (part ∷ parts) = part ++ joined parts
-
--- The rows that the end of the input gives.
-abbrev pub ending : Final → List ℕ → List (Option (List ℕ))
-ending Nothing line = []
-ending (Last len) line = some (take len line) ∷ []
-ending Wider line = none ∷ []
-
--- A run: with the line, what of it is the row so far, a held CR or none, a part from a place on, and the parts behind it,
--- `cut` and `last` give these rows.
-pub data Run : List ℕ → ℕ → Bool → List ℕ → ℕ → List (List ℕ) → List (Option (List ℕ)) → Type 0 where
-  row : {line : List ℕ} {len : ℕ} {c : Bool} {part : List ℕ} {from : ℕ} {parts : List (List ℕ)} {rows : List (Option (List ℕ))}
-      {used n : ℕ} {line′ : List ℕ}
-      → (Row used n, line′) ≡ cutOf part from line len c
-      → Run line′ 0 false part used parts rows
-      → Run line len c part from parts (some (take n line′) ∷ rows)
-  more : {line : List ℕ} {len : ℕ} {c : Bool} {part : List ℕ} {from : ℕ} {next : List ℕ} {parts : List (List ℕ)}
-      {rows : List (Option (List ℕ))} {n : ℕ} {c′ : Bool} {line′ : List ℕ}
-      → (More n c′, line′) ≡ cutOf part from line len c
-      → Run line′ n c′ next 0 parts rows
-      → Run line len c part from (next ∷ parts) rows
-  over : {line : List ℕ} {len : ℕ} {c : Bool} {part : List ℕ} {from : ℕ} {parts : List (List ℕ)} {line′ : List ℕ}
-      → (Over, line′) ≡ cutOf part from line len c
-      → Run line len c part from parts (none ∷ [])
-  ended : {line : List ℕ} {len : ℕ} {c : Bool} {part : List ℕ} {from : ℕ} {n : ℕ} {c′ : Bool} {line′ : List ℕ} {r : Final}
-      {line″ : List ℕ}
-      → (More n c′, line′) ≡ cutOf part from line len c
-      → (r, line″) ≡ lastOf line′ n c′
-      → Run line len c part from [] (ending r line″)
-
 -- The first row counts: it is read, or over.
 read-first : (most : ℕ) (first : List ℕ) (others : List (List ℕ)) → length first ≤ most
-    → upTo most (first ∷ others) ≡ some first ∷ upTo most others
+    → upTo most (first ∷ others) ≡ gives first ∷ upTo most others
 unfolding upTo
 read-first most first others h = rw (le-ltb most (length first) h)
 
-over-first : (most : ℕ) (rows : List (List ℕ)) → StartsOver most rows → upTo most rows ≡ none ∷ []
+over-first : (most : ℕ) (rows : List (List ℕ)) → StartsOver most rows → upTo most rows ≡ refuses overLine ∷ []
 unfolding upTo
 over-first most rows s = rw (s .are, lt-ltb most (length (s .first)) (s .over))
 
-at-last : (rows : List (List ℕ)) (r : Final) (line : List ℕ) → LastTold rows r line → ending r line ≡ upTo (length line) rows
+at-last : (rows : List (List ℕ)) (r : Final) (line : List ℕ) → LastTold rows r line → rowIn (finalSays r line) ≡ upTo (length line) rows
 unfolding upTo
 at-last rows Nothing line t = rw t
 at-last rows (Last n) line t =
@@ -75,7 +39,7 @@ at-last rows (Last n) line t =
 at-last rows Wider line t = sym (over-first (length line) rows t)
 
 pub run-law : {line : List ℕ} {len : ℕ} {c : Bool} {part : List ℕ} {from : ℕ} {parts : List (List ℕ)}
-    {rows : List (Option (List ℕ))}
+    {rows : List (Answer (List ℕ))}
     → Run line len c part from parts rows
     → rows ≡ upTo (length line) (rowsFrom (take len line) c (drop from part ++ joined parts))
 run-law {line} {len} {c} {part} {from} {parts} (row {rows = rows} {used = used} {n = n} {line′ = line′} e next) =
@@ -83,7 +47,7 @@ run-law {line} {len} {c} {part} {from} {parts} (row {rows = rows} {used = used} 
     let h : length (take n line′) ≤ length line = simp length-take (omega (arith, l .0)) in
     let left = drop used part ++ joined parts in
     rw (l .1 .are (joined parts), read-first (length line) (take n line′) (rowsOf left) h)
-    (ap (λ (others : List (Option (List ℕ))). some (take n line′) ∷ others) (rw (l .0, start-law left) at (run-law next)))
+    (ap (λ (others : List (Answer (List ℕ))). gives (take n line′) ∷ others) (rw (l .0, start-law left) at (run-law next)))
 run-law {line} {len} {c} {part} {from} (more {next = p} {parts = parts} {n = n} {c′ = c′} {line′ = line′} e next) =
     let l = cut-law part from line len c (More n c′) line′ e in
     rw (l .1 .are (p ++ joined parts)) (rw (l .0) at (run-law next))
@@ -96,7 +60,7 @@ run-law {line} {len} {c} {part} {from} (ended {n = n} {c′ = c′} {line′ = l
     rw (l .1 .are [], ← l .0, ← m .0) (at-last (rowsFrom (take n line′) c′ []) r line″ (m .1))
 
 -- From the start of the input on: the rows of the whole.
-pub parts-law : {line part : List ℕ} {parts : List (List ℕ)} {rows : List (Option (List ℕ))}
+pub parts-law : {line part : List ℕ} {parts : List (List ℕ)} {rows : List (Answer (List ℕ))}
     → Run line 0 false part 0 parts rows
     → rows ≡ upTo (length line) (rowsOf (joined (part ∷ parts)))
 parts-law {part = part} {parts = parts} run = rw (start-law (part ++ joined parts)) at (run-law run)
@@ -104,7 +68,7 @@ parts-law {part = part} {parts = parts} run = rw (start-law (part ++ joined part
 -- ---- Each input has its run, however it is cut
 
 abbrev Made : List ℕ → ℕ → Bool → List ℕ → ℕ → List (List ℕ) → Type 0
-Made line len c part from parts = (rows : List (Option (List ℕ))) × Run line len c part from parts rows
+Made line len c part from parts = (rows : List (Answer (List ℕ))) × Run line len c part from parts rows
 
 -- How it goes on where a part is used up.
 abbrev OnMore : List (List ℕ) → Type 0
@@ -120,9 +84,9 @@ by-answer : (parts : List (List ℕ)) → OnMore parts
     → Made line len c part from parts
 by-answer parts m part from line len c (Row used n) line′ e go =
     let t = cut-law part from line len c (Row used n) line′ e .1 in
-    let next = go used (t .forth) (t .inside) in (some (take n line′) ∷ next .0, row e (next .1))
+    let next = go used (t .forth) (t .inside) in (gives (take n line′) ∷ next .0, row e (next .1))
 by-answer parts m part from line len c (More n c′) line′ e go = m part from line len c n c′ line′ e
-by-answer parts m part from line len c Over line′ e go = (none ∷ [], over e)
+by-answer parts m part from line len c Over line′ e go = (refuses overLine ∷ [], over e)
 
 in-part : (parts : List (List ℕ)) → OnMore parts
     → (k : ℕ) (part : List ℕ) (from : ℕ) (line : List ℕ) (len : ℕ) (c : Bool)
@@ -137,7 +101,7 @@ in-part parts m (suc k) part from line len c h =
 made : (parts : List (List ℕ)) (part : List ℕ) (from : ℕ) (line : List ℕ) (len : ℕ) (c : Bool) → Made line len c part from parts
 made [] part from line len c =
     in-part []
-    (λ q g l m d n d′ l′ e. let f = lastOf l′ n d′ in (ending (f .0) (f .1), ended e refl))
+    (λ q g l m d n d′ l′ e. let f = lastOf l′ n d′ in (rowIn (finalSays (f .0) (f .1)), ended e refl))
     (suc (length part - from)) part from line len c (omega arith)
 made (p ∷ parts) part from line len c =
     in-part (p ∷ parts)

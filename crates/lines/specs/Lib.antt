@@ -1,2 +1,4 @@
 pub mod Rows
 pub mod Cuts
+pub mod Answers
+pub mod Runs

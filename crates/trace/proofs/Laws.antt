@@ -17,7 +17,7 @@ use Rattle.trace.specs.declared.Due.the-variants.{Label, Nothing}
 use Rattle.trace.specs.Numbers.{greatest, numberOf}
 use Rattle.trace.specs.Rows.{fieldsOf, triplesOf, Parts, parts, formOf, inTurn, kept, longestRow, readRow}
 use Rattle.trace.specs.Header.{headerText, sameText}
-use Rattle.trace.specs.Written.{tripleTexts, rowText, InForm}
+use Rattle.trace.specs.Written.{tripleTexts, rowText, InForm, TakenRight}
 use Rattle.trace.proofs.Cases.{refusal-gives-nothing}
 use Rattle.trace.proofs.Commas.{split-joined, joined-split}
 use Rattle.trace.proofs.Decimals.{decimal-over}
@@ -71,12 +71,6 @@ a-row-of-the-form-is-taken row l s bits buffer f size =
     by-form row (Label l) buffer {answer = gives (bears l s bits)} size (rw (f .text) (row-length l s bits (f .label-fits) (f .stamp-fits)))
     (sym (row-form row l s bits f)) (simp (eq-eqb l l refl))
 
--- And what is taken is a row of the form whose label was due, read into a buffer of 54 bytes.
-pub record TakenRight (row : List ℕ) (due : Due) (buffer : List ℕ) (l s : ℕ) (after : List ℕ) : Type 0 where
-  pub in-form : InForm row l s after
-  pub was-due : due ≡ Label l
-  pub room : length buffer ≡ 54
-
 of-fields : (row : List ℕ) (p : Parts) (fs : List (List ℕ)) → row ≡ joinedByCommas fs → formOf fs ≡ gives p
     → InForm row (p .label) (p .stamp) (p .sample)
 unfolding formOf rowText
@@ -101,6 +95,7 @@ of-fields row p (f ∷ g ∷ ts) text h = by-parts (numberOf f) (numberOf g) (tr
   by-parts (gives l) (refuses n) z i j k e = refusal-gives-nothing e
   by-parts (refuses n) y z i j k e = refusal-gives-nothing e
 
+-- And what is taken is a row of the form whose label was due, read into a buffer of 54 bytes.
 pub what-is-taken-is-of-the-form : (row : List ℕ) (due : Due) (buffer : List ℕ) (l s : ℕ) (after : List ℕ)
     → readRow row due buffer ≡ (gives (l, s), after) → TakenRight row due buffer l s after
 unfolding readRow inTurn

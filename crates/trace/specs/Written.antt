@@ -6,6 +6,8 @@ use mathlib.Core.List.{List, [], _∷_}
 use lib.ListN.{length}
 use Rattle.common.specs.Ascii.{joinedByCommas}
 use Rattle.common.specs.Decimal.{decimal, digit0}
+use Rattle.trace.specs.declared.Due.{Due}
+use Rattle.trace.specs.declared.Due.the-variants.{Label}
 use Rattle.trace.specs.Numbers.{greatest}
 
 -- So many fields of three digits, one for each three channels.
@@ -33,3 +35,9 @@ pub record InForm (row : List ℕ) (label stamp : ℕ) (bits : List ℕ) : Type 
   pub whole : length bits ≡ 54
   pub only-bits : AllBits bits
   pub text : row ≡ rowText label stamp bits
+
+-- What is taken is a row of the form whose label was due, read into a buffer of 54 bytes.
+pub record TakenRight (row : List ℕ) (due : Due) (buffer : List ℕ) (l s : ℕ) (after : List ℕ) : Type 0 where
+  pub in-form : InForm row l s after
+  pub was-due : due ≡ Label l
+  pub room : length buffer ≡ 54
