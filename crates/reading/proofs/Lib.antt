@@ -4,4 +4,5 @@ pub mod Starts
 pub mod Kept
 pub mod Lending
 pub mod ByParts
+pub mod Fills
 pub mod Once

@@ -4,3 +4,4 @@ pub mod Whole
 pub mod SessionS
 pub mod Parts
 pub mod Runs
+pub mod Fills

@@ -2,7 +2,7 @@
 // specs/Rows.antt (document 01, "The trace and its program"). A trace is taken in by parts of any size, one row a call: specs/Parts.antt
 // says what a call gives. What is made of a row is another crate's: `lesson` writes it as a row of `replay`, and `dumping` as a moment of
 // `waves`. For all of them specs/Runs.antt says what a whole run by parts is, and proofs/ByParts.antt that however the input is cut, the run
-// comes to what the rows of the whole come to.
+// comes to what the rows of the whole come to. specs/Fills.antt says what they give where a whole part goes into one output buffer.
 ghost use mathlib.Core.Path.{_≡_};
 ghost use Prim.Native.Nat.{_≤_};
 ghost use mathlib.Core.Bool.{false};
