@@ -2,41 +2,73 @@
 -- crate `reading`), where what the rows give is the dump of their moments (proofs/Whole.antt).
 -- Assumes nothing.
 use Prim.Native.Nat.{ℕ}
+use mathlib.Core.Bool.{Bool, true, false}
 use mathlib.Core.List.{List, []}
-use mathlib.Core.Logic.{_⊎_}
-use mathlib.Core.Path.{_≡_, ap, _∙_}
+use mathlib.Core.Path.{_≡_, ap, subst, _∙_}
 use lib.ListN.{length}
 use Rattle.lines.specs.Rows.{rowsOf}
+use Rattle.lines.proofs.Law.{start-law}
+use Rattle.controller.specs.declared.State.{State}
 use Rattle.controller.specs.Start.{freshOf}
 use Rattle.reading.specs.declared.Phase.the-variants.{Ended}
-use Rattle.reading.specs.Rows.{nothingRead}
-use Rattle.reading.specs.Parts.{lineBytes, newRun}
-use Rattle.reading.specs.Runs.{Outcome, AllRoom, inputOf}
+use Rattle.reading.specs.Parts.{lineBytes, runFrom}
+use Rattle.reading.specs.Runs.{Outcome, toCome, AllRoom, inputOf}
 use Rattle.reading.proofs.ByParts as by
 use Rattle.dump.specs.declared.Dump.{Dump}
-use Rattle.dump.specs.Dumps.{Rising}
+use Rattle.dump.specs.Dumps.{Rising, dumpOf}
 use Rattle.dump.specs.Writes.{startsWith}
 use Rattle.dumping.specs.declared.Waves.{Waves}
-use Rattle.dumping.specs.Moments.{momentsOf, wavesOf}
-use Rattle.dumping.specs.Parts.{given, fromRows, newWaves, room, writtenInAll}
-use Rattle.dumping.proofs.Whole.{nothing-told, Dumped, from-header}
+use Rattle.dumping.specs.Moments.{hasRow0, StartWith, momentsFrom, wavesFrom, wavesOf}
+use Rattle.dumping.specs.Parts.{given, fromRows, begunFrom, newWaves, room, writtenInAll}
+use Rattle.dumping.proofs.RowZero.{answered-exactly}
+use Rattle.dumping.proofs.Whole.{nothing-told, RiseIf, from-header}
 
-whole : (dump : Dump) (rows : List (List ℕ)) → Dumped nothingRead dump rows
-unfolding nothingRead
-whole dump rows = from-header (freshOf 0) dump rows
+-- ---- The moments of a trace
 
--- A trace has no moments, or their times rise from 0 and stay below 2 ^ 64, each with a value for each wire.
-pub moments-rise : (input : List ℕ) → (momentsOf input ≡ []) ⊎ Rising (momentsOf input)
-unfolding momentsOf
-moments-rise input = whole (startsWith []) (rowsOf input) .rise
+-- By whether the trace has a row 0, from any controller.
+rise-if : (state : State) (input : List ℕ) → RiseIf (hasRow0 input) state (momentsFrom state input)
+unfolding momentsFrom
+rise-if state input =
+    rw (← answered-exactly state (rowsOf input)) (from-header state (startsWith []) (rowsOf input) .rise)
+
+module _ (state : State) (input : List ℕ) where
+  rise-by : (t : Bool) → hasRow0 input ≡ t → RiseIf t state (momentsFrom state input)
+  rise-by t e = subst (λ (b : Bool). RiseIf b state (momentsFrom state input)) e (rise-if state input)
+
+  -- Where it has, the times of the moments rise from 0 and stay below 2 ^ 64, each with a value for each wire,
+  pub moments-rise : hasRow0 input ≡ true → Rising (momentsFrom state input)
+  moments-rise e = rise-by true e .0
+
+  -- and the first of them is what the controller shows that the run started from.
+  pub starts-as-shown : hasRow0 input ≡ true → StartWith state (momentsFrom state input)
+  starts-as-shown e = rise-by true e .1
+
+  -- Where it has none, there are no moments, and nothing is written.
+  pub none-without-row-0 : hasRow0 input ≡ false → (momentsFrom state input ≡ []) × (wavesFrom state input ≡ [])
+  unfolding wavesFrom dumpOf
+  none-without-row-0 e = let none = rise-by false e in (none, rw none)
+
+-- ---- However the trace is cut
+
+-- What is to come of a run from its start is the dump of the whole trace.
+pub dump-to-come : (state : State) (line input : List ℕ)
+    → toCome given (begunFrom state .dump) (begunFrom state .run) line input .0 ≡ wavesFrom state input
+unfolding toCome begunFrom runFrom wavesFrom momentsFrom fromRows
+dump-to-come state line input = rw (start-law input) (from-header state (begunFrom state .dump) (rowsOf input) .text)
 
 -- With any line buffer of 512 bytes and any output buffers that have room for the head of a dump:
 module _ (lends : ℕ → List ℕ) (rooms : AllRoom room lends) (line : List ℕ) (h : length line ≡ lineBytes) (parts : List (List ℕ)) where
+  -- what is written in all is the dump of the whole trace, from any controller,
+  pub dumped-from : (state : State) → writtenInAll lends (begunFrom state) line parts ≡ wavesFrom state (inputOf parts)
+  dumped-from state =
+      ap (λ (o : Outcome Dump). o .0)
+      (by.by-parts-from given nothing-told room lends rooms (begunFrom state .dump) (begunFrom state .run) line parts h)
+      ∙ dump-to-come state line (inputOf parts)
+
+  -- also from a fresh one.
   pub dumped-in-all : writtenInAll lends newWaves line parts ≡ wavesOf (inputOf parts)
-  unfolding newWaves newRun wavesOf momentsOf fromRows nothingRead
-  dumped-in-all =
-      ap (λ (o : Outcome Dump). o .0) (by.by-parts given nothing-told room lends rooms (newWaves .dump) (freshOf 0) line parts h)
-      ∙ whole (newWaves .dump) (rowsOf (inputOf parts)) .text
+  unfolding newWaves wavesOf
+  dumped-in-all = dumped-from (freshOf 0)
 
   -- Where a refusal has ended the reading, nothing more is written, whatever still follows.
   pub ended-for-good : (waves : Waves) (at refusal : ℕ) → waves .run .reading .phase ≡ Ended at refusal

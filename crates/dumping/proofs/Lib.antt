@@ -2,6 +2,7 @@ pub mod Law
 pub mod Lengths
 pub mod Once
 pub mod ReadBack
+pub mod RowZero
 pub mod Steps
 pub mod Taking
 pub mod Telling

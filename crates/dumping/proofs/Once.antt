@@ -8,6 +8,8 @@ use Rattle.common.specs.OneAnswer.{OneAnswer, OneAnswerAnd}
 use Rattle.common.proofs.Pairs.{all-three}
 use Rattle.dumping.proofs.wires.Kinds as wires-kinds
 use Rattle.dumping.proofs.wires.Reads as wires-reads
+use Rattle.dumping.proofs.Waves.from.Kinds as from-kinds
+use Rattle.dumping.proofs.Waves.from.Reads as from-reads
 use Rattle.dumping.proofs.Waves.new.Kinds as new-kinds
 use Rattle.dumping.proofs.Waves.new.Reads as new-reads
 use Rattle.dumping.proofs.Waves.phase.Kinds as phase-kinds
@@ -19,6 +21,9 @@ use Rattle.dumping.proofs.Waves.finish.Reads as finish-reads
 
 pub wires-once : OneAnswer 0 wires-kinds.ps wires-kinds.r wires-reads.Post
 wires-once κs a x y s t p q = p ∙ sym q
+
+pub from-once : OneAnswer 0 from-kinds.ps from-kinds.r from-reads.Post
+from-once κs a x y s t p q = p ∙ sym q
 
 pub new-once : OneAnswer 0 new-kinds.ps new-kinds.r new-reads.Post
 new-once κs a x y s t p q = p ∙ sym q

@@ -1,23 +1,19 @@
--- The dump of every trace is taken back: nothing is written where there is no row 0, and else the reader gives the moments of the
--- trace at which something changes, and with them every value at every time.
+-- The dump of every trace that has a row 0 is taken back: the reader gives the moments of the trace at which something changes, and with
+-- them every value at every time. (Where there is no row 0 nothing is written: `none-without-row-0` of proofs/Law.antt.)
 -- Assumes nothing.
 use Prim.Native.Nat.{ℕ}
-use mathlib.Core.List.{List, []}
-use mathlib.Core.Logic.{_⊎_, inl, inr}
+use mathlib.Core.Bool.{true}
+use mathlib.Core.List.{List}
 use mathlib.Core.Path.{_≡_}
 use Rattle.common.specs.Answers.{gives}
-use Rattle.dump.specs.Dumps.{Rising, dumpOf}
+use Rattle.controller.specs.declared.State.{State}
 use Rattle.readback.specs.Reads.{readOf}
 use Rattle.readback.specs.Values.{shown}
 use Rattle.readback.proofs.Written.{written-is-read}
-use Rattle.dumping.specs.Moments.{momentsOf, wavesOf}
+use Rattle.dumping.specs.Moments.{hasRow0, momentsFrom, wavesFrom}
 use Rattle.dumping.proofs.Law.{moments-rise}
 
-by-moments : (input : List ℕ) → (momentsOf input ≡ []) ⊎ Rising (momentsOf input)
-    → (wavesOf input ≡ []) ⊎ (readOf (wavesOf input) ≡ gives (shown (momentsOf input)))
-unfolding wavesOf dumpOf
-by-moments input (inl e) = inl (rw e)
-by-moments input (inr rising) = inr (written-is-read (momentsOf input) rising)
-
-pub waves-read-back : (input : List ℕ) → (wavesOf input ≡ []) ⊎ (readOf (wavesOf input) ≡ gives (shown (momentsOf input)))
-waves-read-back input = by-moments input (moments-rise input)
+pub waves-read-back : (state : State) (input : List ℕ) → hasRow0 input ≡ true
+    → readOf (wavesFrom state input) ≡ gives (shown (momentsFrom state input))
+unfolding wavesFrom
+waves-read-back state input e = written-is-read (momentsFrom state input) (moments-rise state input e)

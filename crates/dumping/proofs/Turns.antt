@@ -5,7 +5,7 @@
 use Prim.Native.Nat.{ℕ, zero, suc, _+_, _*_, _^_, _<_, _≤_}
 use native.Mathlib.Numerals.{add-one}
 use native.Mathlib.Omega.{arith}
-use mathlib.Core.Bool.{Bool, false}
+use mathlib.Core.Bool.{Bool, true, false}
 use mathlib.Core.List.{List, [], _∷_}
 use mathlib.Core.Path.{_≡_, refl}
 use borrow.Author.Tests.{ne-eqb, eqb-true, lt-leb, ltb-true}
@@ -23,13 +23,14 @@ use Rattle.controller.specs.declared.Answer.{Answer}
 use Rattle.controller.specs.Start.{startedAt}
 use Rattle.controller.specs.Stages.{elapsedOf, accepted}
 use Rattle.controller.specs.Steps.{limit, stepOf}
-use Rattle.controller.specs.Lamps.{valuesOf}
+use Rattle.controller.specs.Lamps.{lightsOf, shownOf, valuesOf}
 use Rattle.reading.specs.declared.Phase.{Phase}
 use Rattle.reading.specs.declared.Phase.the-variants.{Header, Rows, Ended}
 use Rattle.reading.specs.declared.Reading.{Reading}
 use Rattle.reading.specs.declared.Heard.{Heard}
 use Rattle.reading.specs.Runs.{toldOf}
 use Rattle.reading.specs.Rows.{nextDue, lineOf, untold, endsAt, answerTo, shownRow, noSample, traceRow, rowOf}
+use Rattle.reading.specs.Whole.{isAnswered}
 use Rattle.reading.proofs.FirstRow.{by-first-row}
 use Rattle.dump.specs.declared.Dump.{Dump}
 use Rattle.dump.specs.Wires.{wires}
@@ -199,25 +200,24 @@ turn reading dump row r = turn-in (reading .phase) (reading .state) dump row r
 
 -- ---- Up to row 0
 
--- The start is added, and its head is written.
+-- What a controller shows does not depend on its stamp.
+same-wires : (stamp : ℕ) (s : State) → wiresOf (startedAt stamp s) ≡ wiresOf s
+unfolding wiresOf shownOf lightsOf valuesOf startedAt
+same-wires stamp s = refl
+
+-- The start is added, with what the controller shows, and its head is written.
 pub record Started (dump : Dump) (before : Reading) (heard : Heard) : Type 0 where
-  pub values : List Bool
-  pub wide : length values ≡ wires
-  pub told : toldOf given dump before heard ≡ (startsWith values, headText values)
-  pub one : adds (dump .time) before heard ≡ record { time = 0; values = values } ∷ []
+  pub answered : isAnswered (heard .came) ≡ true
+  pub told : toldOf given dump before heard ≡ (startsWith (wiresOf (before .state)), headText (wiresOf (before .state)))
+  pub one : adds (dump .time) before heard ≡ at 0 (before .state) ∷ []
   pub running : Running (heard .reading .phase) 0
 
 row-0-started : (dump : Dump) (before : Reading) (stamp : ℕ) (sample : List ℕ)
     → Started dump before (shownRow (Label 0) 0 (answerTo (before .state) 0 stamp sample))
 unfolding answerTo shownRow given adds
 row-0-started dump before stamp sample =
-    record {
-      values = wiresOf (startedAt stamp (before .state));
-      wide = a-value-each (startedAt stamp (before .state));
-      told = refl;
-      one = refl;
-      running = (lit≤ tt, lit≤ tt);
-    }
+    let same = same-wires stamp (before .state) in
+    record { answered = refl; told = rw same; one = rw same; running = (lit≤ tt, lit≤ tt) }
 
 -- Where row 0 is due, a row is row 0, or it ends the reading.
 pub data FirstTurn (dump : Dump) (before : Reading) (heard : Heard) : Type 0 where

@@ -14,9 +14,9 @@ use Rattle.names.specs.Words.{sensorNames, orderNames, lampNames}
 use Rattle.dump.specs.Wires.{wireNames}
 use Rattle.dump.specs.Dumps.{linesFrom, declaration, openingText, closingText, headText, changesFrom, momentText, laterText, dumpOf}
 use Rattle.dump.specs.SessionS.{linesOf, sessionLines, sessionDump}
-use Rattle.reading.specs.Rows.{endsAt, headerRow, answerTo, shownRow, noSample, traceRow, rowOf, endOf, nothingRead}
+use Rattle.reading.specs.Rows.{endsAt, headerRow, answerTo, shownRow, noSample, traceRow, rowOf, endOf}
 use Rattle.reading.specs.SessionS.{traceOf, rowsOfS, sessionTrace}
-use Rattle.dumping.specs.Moments.{wiresOf, adds, momentsFrom, momentsOf, wavesOf}
+use Rattle.dumping.specs.Moments.{wiresOf, adds, momentsAfter, momentsFrom, wavesFrom, wavesOf}
 
 pub session-dumped : wavesOf sessionTrace ≡ sessionDump
 unfolding
@@ -24,6 +24,6 @@ unfolding
     before rowsOf digitsFrom numberOf tripleOf fieldsOf triplesOf formOf inTurn readRow headerNames sensorNames headerText sameText
     decimal decimalUpTo joinedByCommas orderNames lampNames
     wireNames linesFrom declaration openingText closingText headText changesFrom momentText laterText dumpOf linesOf sessionLines sessionDump
-    endsAt headerRow answerTo shownRow noSample traceRow rowOf endOf nothingRead
-    wiresOf adds momentsFrom momentsOf wavesOf ended traceOf rowsOfS sessionTrace
+    endsAt headerRow answerTo shownRow noSample traceRow rowOf endOf
+    wiresOf adds momentsAfter momentsFrom wavesFrom wavesOf ended traceOf rowsOfS sessionTrace
 session-dumped = refl

@@ -6,11 +6,12 @@ use mathlib.Core.List.{List, [], _++_}
 use lib.Dec.{eqb}
 use lib.ListN.{length, drop, replicate}
 use Rattle.controller.specs.declared.State.{State}
+use Rattle.controller.specs.Start.{freshOf}
 use Rattle.controller.specs.Stages.{elapsedOf}
 use Rattle.reading.specs.declared.Reading.{Reading}
 use Rattle.reading.specs.declared.Came.{Came}
 use Rattle.reading.specs.declared.Came.the-variants.{Nothing, Answered, Refused}
-use Rattle.reading.specs.Parts.{newRun}
+use Rattle.reading.specs.Parts.{runFrom}
 use Rattle.reading.specs.Runs.{Teller, inRows, Answer, takeBy, finishBy, inAll}
 use Rattle.dump.specs.declared.Dump.{Dump}
 use Rattle.dump.specs.Wires.{wires}
@@ -54,9 +55,14 @@ fromRows reading dump rows = inRows given dump reading rows .0
 
 -- ---- A call
 
--- At the start no dump is begun. (Row 0 begins it; until then this one is not used.)
+-- At the start nothing is read, and no dump is begun. (Row 0 begins it; until then this one is not used.) The controller is the one to
+-- go on with.
+unfoldable pub begunFrom : State → Waves
+begunFrom state = record { run = runFrom state; dump = startsWith (replicate wires false) }
+
+-- A lesson that was not handed over starts from a fresh controller.
 unfoldable pub newWaves : Waves
-newWaves = record { run = newRun; dump = startsWith (replicate wires false) }
+newWaves = begunFrom (freshOf 0)
 
 -- A text in front of the output buffer: the dump after it and how many bytes were written, and the buffer.
 unfoldable pub inFront : Given → List ℕ → Told × List ℕ

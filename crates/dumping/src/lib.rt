@@ -1,6 +1,7 @@
-// A whole run of the program `waves` (request K2): a trace in, the value change dump of it out. The rule is specs/Moments.antt, from all bytes
-// of the trace to all bytes of the dump. The trace is taken in by parts, one row a call, by the crate `reading`: here is only what is
-// written of a row (specs/Parts.antt). proofs/Law.antt says that however the input is cut, what is written in all is the dump of the whole.
+// A whole run of the program `waves` (request K2): a trace in, the value change dump of it out, from a fresh controller or from one that
+// was handed over (request K3). The rule is specs/Moments.antt, from all bytes of the trace to all bytes of the dump. The trace is taken in
+// by parts, one row a call, by the crate `reading`: here is only what is written of a row (specs/Parts.antt). proofs/Law.antt says that
+// however the input is cut, what is written in all is the dump of the whole.
 ghost use mathlib.Core.Path.{_≡_};
 ghost use Prim.Native.Nat.{_≤_};
 ghost use lib.ListN.{length};
@@ -9,7 +10,7 @@ ghost use Rattle.reading.specs.declared.Came.the-variants.{Answered};
 ghost use Rattle.dump.specs.Dumps.{headText};
 ghost use Rattle.dump.specs.Writes.{startsWith};
 ghost use Rattle.dumping.specs.Moments.{wiresOf};
-ghost use Rattle.dumping.specs.Parts.{later, givenBy, newWaves, inFront, takeOf, finishOf};
+ghost use Rattle.dumping.specs.Parts.{later, givenBy, begunFrom, newWaves, inFront, takeOf, finishOf};
 use controller::State;
 use dump::Dump;
 use reading::Came;
@@ -78,18 +79,25 @@ pub fn wires(state: State) -> [bool; 26]
 }
 
 impl Waves {
-    // A run at its start.
-    pub fn new() -> Self
-        ensures { λ r. ⌜ r ≡ newWaves ⌝ }
+    // A run at its start, with the controller to go on with.
+    pub fn from(state: State) -> Self
+        ensures { λ r. ⌜ r ≡ begunFrom state ⌝ }
     {
         let dump = Dump {
             time: 0,
             values: [false; 26],
         };
         Waves {
-            run: Run::new(),
+            run: Run::from(state),
             dump,
         }
+    }
+
+    // A run at its start, from a fresh controller.
+    pub fn new() -> Self
+        ensures { λ r. ⌜ r ≡ newWaves ⌝ }
+    {
+        Waves::from(State::fresh(0))
     }
 
     // How far the trace has been read, and what ended the reading.
