@@ -1,10 +1,11 @@
 -- However the trace is cut into parts, what is written in all is the dump of the whole. It is the law of every run by parts (`by-parts` of the
 -- crate `reading`), where what the rows give is the dump of their moments (proofs/Whole.antt).
 -- Assumes nothing.
-use Prim.Native.Nat.{ℕ}
-use mathlib.Core.Bool.{Bool, true, false}
+use Prim.Native.Nat.{ℕ, _≤_}
+use mathlib.Core.Bool.{Bool, true, false, cond, _&&_}
 use mathlib.Core.List.{List, []}
-use mathlib.Core.Path.{_≡_, ap, subst, _∙_}
+use mathlib.Core.Path.{_≡_, sym, ap, subst, _∙_}
+use lib.Dec.{eqb, leb}
 use lib.ListN.{length}
 use Rattle.lines.specs.Rows.{rowsOf}
 use Rattle.lines.proofs.Law.{start-law}
@@ -13,13 +14,16 @@ use Rattle.controller.specs.Start.{freshOf}
 use Rattle.reading.specs.declared.Phase.the-variants.{Ended}
 use Rattle.reading.specs.Parts.{lineBytes, runFrom}
 use Rattle.reading.specs.Runs.{Outcome, toCome, AllRoom, inputOf}
+use Rattle.reading.specs.Fills.{goesOn, Filled}
 use Rattle.reading.proofs.ByParts as by
+use Rattle.reading.proofs.Fills as fills
 use Rattle.dump.specs.declared.Dump.{Dump}
 use Rattle.dump.specs.Dumps.{Rising, dumpOf}
 use Rattle.dump.specs.Writes.{startsWith}
 use Rattle.dumping.specs.declared.Waves.{Waves}
+use Rattle.dumping.specs.declared.Took.{Took}
 use Rattle.dumping.specs.Moments.{hasRow0, StartWith, momentsFrom, wavesFrom, wavesOf}
-use Rattle.dumping.specs.Parts.{given, fromRows, begunFrom, newWaves, room, writtenInAll}
+use Rattle.dumping.specs.Parts.{given, fromRows, begunFrom, newWaves, room, answerOf, fillOf, writtenInAll}
 use Rattle.dumping.proofs.RowZero.{answered-exactly}
 use Rattle.dumping.proofs.Whole.{nothing-told, RiseIf, from-header}
 
@@ -76,3 +80,29 @@ module _ (lends : ℕ → List ℕ) (rooms : AllRoom room lends) (line : List �
   ended-for-good waves at refusal e =
       ap (λ (o : Outcome Dump). o .0)
       (by.ended-for-good given nothing-told room lends rooms (waves .dump) (waves .run) line parts at refusal h e)
+
+-- A call of `fill`, by what the contract says of it:
+module _ (waves : Waves) (line out : List ℕ) (took : Took) (line′ out′ : List ℕ) where
+  module _ (part : List ℕ) (e : (took, line′, out′) ≡ fillOf waves part line out) where
+    -- refusal 8 exactly if the output buffer has no room for the head of a dump or the line buffer is not 512 bytes.
+    pub eight-exactly : took .refusal ≡ cond (leb room (length out) && eqb (length line) lineBytes) 0 8
+    unfolding fillOf
+    eight-exactly =
+        ap (λ (x : Took × List ℕ × List ℕ). x .0 .refusal) e
+        ∙ fills.eight-exactly given nothing-told room part (waves .dump) (waves .run) line out
+
+    -- With both, what was to come of the dump is what is written and what is still to come,
+    pub filled : length line ≡ lineBytes → room ≤ length out
+        → Filled given (waves .dump) (waves .run) part line out (answerOf took line′ out′)
+    unfolding fillOf
+    filled full long =
+        subst
+        (λ (x : Took × List ℕ × List ℕ). Filled given (waves .dump) (waves .run) part line out (answerOf (x .0) (x .1) (x .2)))
+        (sym e) (fills.fill-right given nothing-told room part (waves .dump) (waves .run) line out full long)
+
+    -- and the call ends only where the part is used up, a refusal has ended the reading, or there is no room for a further head.
+    pub fill-ends : length line ≡ lineBytes → room ≤ length out → goesOn room part (answerOf took line′ out′) ≡ false
+    unfolding fillOf
+    fill-ends full long =
+        ap (λ (x : Took × List ℕ × List ℕ). goesOn room part (answerOf (x .0) (x .1) (x .2))) e
+        ∙ fills.fill-ends given nothing-told room part (waves .dump) (waves .run) line out full long

@@ -1,3 +1,4 @@
+pub mod Filling
 pub mod Law
 pub mod Lengths
 pub mod Once

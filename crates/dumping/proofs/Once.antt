@@ -18,6 +18,8 @@ use Rattle.dumping.proofs.Waves.take.Kinds as take-kinds
 use Rattle.dumping.proofs.Waves.take.Reads as take-reads
 use Rattle.dumping.proofs.Waves.finish.Kinds as finish-kinds
 use Rattle.dumping.proofs.Waves.finish.Reads as finish-reads
+use Rattle.dumping.proofs.Waves.fill.Kinds as fill-kinds
+use Rattle.dumping.proofs.Waves.fill.Reads as fill-reads
 
 pub wires-once : OneAnswer 0 wires-kinds.ps wires-kinds.r wires-reads.Post
 wires-once κs a x y s t p q = p ∙ sym q
@@ -40,3 +42,8 @@ take-once κs a x y s t p q = all-three (p .0 ∙ sym (q .0))
 pub finish-once : OneAnswerAnd 2 finish-kinds.ps finish-kinds.r finish-reads.Post (List ℕ × List ℕ)
     (λ κs s. (now (s .1 .0), now (s .1 .1 .0)))
 finish-once κs a x y s t p q = all-three (p .0 ∙ sym (q .0))
+
+-- And as `fill` leaves them.
+pub fill-once : OneAnswerAnd 3 fill-kinds.ps fill-kinds.r fill-reads.Post (List ℕ × List ℕ)
+    (λ κs s. (now (s .1 .1 .0), now (s .1 .1 .1 .0)))
+fill-once κs a x y s t p q = all-three (p .0 ∙ sym (q .0))

@@ -13,6 +13,7 @@ use Rattle.reading.specs.declared.Came.{Came}
 use Rattle.reading.specs.declared.Came.the-variants.{Nothing, Answered, Refused}
 use Rattle.reading.specs.Parts.{runFrom}
 use Rattle.reading.specs.Runs.{Teller, inRows, Answer, takeBy, finishBy, inAll}
+use Rattle.reading.specs.Fills.{turnFrom, fillBy}
 use Rattle.dump.specs.declared.Dump.{Dump}
 use Rattle.dump.specs.Wires.{wires}
 use Rattle.dump.specs.Dumps.{headText, headLength, momentText}
@@ -91,6 +92,30 @@ takeOf waves part line out = tookOf (takeBy given room (waves .dump) (waves .run
 -- The end of the input.
 unfoldable pub finishOf : Waves → List ℕ → List ℕ → Took × List ℕ × List ℕ
 finishOf waves line out = tookOf (finishBy given room (waves .dump) (waves .run) line out)
+
+-- ---- A whole part
+
+-- What was given so far, as an answer.
+abbrev pub answerOf : Took → List ℕ → List ℕ → Answer Dump
+answerOf took line out = (
+  record {
+    run = took .waves .run;
+    carried = took .waves .dump;
+    used = took .used;
+    written = took .written;
+    refusal = took .refusal;
+  },
+  line,
+  out,
+)
+
+-- One row more.
+abbrev pub turnOf : Took → List ℕ → List ℕ → List ℕ → Took × List ℕ × List ℕ
+turnOf took part line out = tookOf (turnFrom given room part (answerOf took line out))
+
+-- The part row by row, as far as there is room.
+unfoldable pub fillOf : Waves → List ℕ → List ℕ → List ℕ → Took × List ℕ × List ℕ
+fillOf waves part line out = tookOf (fillBy given room (waves .dump) (waves .run) part line out)
 
 -- ---- All calls
 

@@ -3,14 +3,17 @@
 // by parts, one row a call, by the crate `reading`: here is only what is written of a row (specs/Parts.antt). proofs/Law.antt says that
 // however the input is cut, what is written in all is the dump of the whole.
 ghost use mathlib.Core.Path.{_≡_};
-ghost use Prim.Native.Nat.{_≤_};
+ghost use Prim.Native.Nat.{_-_, _≤_};
+ghost use mathlib.Core.Bool.{_&&_, not};
+ghost use lib.Dec.{leb, ltb};
 ghost use lib.ListN.{length};
 ghost use Rattle.controller.specs.Stages.{elapsedOf};
+ghost use Rattle.reading.specs.Rows.{hasEnded};
 ghost use Rattle.reading.specs.declared.Came.the-variants.{Answered};
 ghost use Rattle.dump.specs.Dumps.{headText};
 ghost use Rattle.dump.specs.Writes.{startsWith};
 ghost use Rattle.dumping.specs.Moments.{wiresOf};
-ghost use Rattle.dumping.specs.Parts.{later, givenBy, begunFrom, newWaves, inFront, takeOf, finishOf};
+ghost use Rattle.dumping.specs.Parts.{later, givenBy, begunFrom, newWaves, inFront, takeOf, finishOf, turnOf, fillOf};
 use controller::State;
 use dump::Dump;
 use reading::Came;
@@ -141,7 +144,32 @@ impl Waves {
         taken_in(next, told)
     }
 
-    // An output buffer that has no room.
+    // Takes in a part of the input row by row, and writes what the rows give, each text behind the one before it, until the part is
+    // used up, a refusal of a row has ended the reading, or less than the room for the head of a dump is left in the output buffer.
+    // What is left of the part is for the next call.
+    pub fn fill(self, part: &[u8], line: &mut [u8], out: &mut [u8]) -> Took
+        ensures { λ r. ⌜ (r, now (line .exit), now (out .exit)) ≡ fillOf self (now (part .entry)) (now (line .entry)) (now (out .entry)) ⌝ }
+        ensures { λ r. ⌜ (r .used ≤ length (now (part .entry))) × (r .written ≤ length (now (out .entry))) ⌝ }
+    {
+        if out.len() < ROOM {
+            return self.refused();
+        }
+        if line.len() != reading::LINE {
+            return self.refused();
+        }
+        let mut took = Took {
+            waves: self,
+            used: 0,
+            written: 0,
+            refusal: 0,
+        };
+        while goes_on(took, part.len(), out.len()) {
+            took = turn(took, part, line, out);
+        }
+        took
+    }
+
+    // An output buffer that has no room, or a line buffer that is not 512 bytes.
     fn refused(self) -> Took
         ensures { λ r. ⌜ r ≡ record { waves = self; used = 0; written = 0; refusal = 8 } ⌝ }
     {
@@ -160,6 +188,35 @@ impl Waves {
         let run = self.run;
         let state = run.state();
         state.stamp
+    }
+}
+
+// Whether there is a further row to take in: some of the part is left, there is room, and no refusal has ended the reading.
+fn goes_on(took: Took, size: usize, bytes: usize) -> bool
+    requires { ⌜ took .written ≤ bytes ⌝ }
+    ensures { λ r. ⌜ r ≡ (ltb (took .used) size && leb 1078 (bytes - took .written) && not (hasEnded (took .waves .run .reading .phase))) ⌝ }
+{
+    let waves = took.waves;
+    let phase = waves.phase();
+    (took.used < size) & (ROOM <= bytes - took.written) & !phase.has_ended()
+}
+
+// The next row of the part, written behind what is written.
+fn turn(took: Took, part: &[u8], line: &mut [u8], out: &mut [u8]) -> Took
+    requires { ⌜ (took .used ≤ length (now part)) × (took .written ≤ length (now out)) ⌝ }
+    ensures { λ r. ⌜ (r, now (line .exit), now (out .exit)) ≡ turnOf took (now (part .entry)) (now (line .entry)) (now (out .entry)) ⌝ }
+    ensures { λ r. ⌜ (r .used ≤ length (now (part .entry))) × (r .written ≤ length (now (out .entry))) ⌝ }
+{
+    let used = took.used;
+    let written = took.written;
+    let before = took.waves;
+    let row = before.take(&part[used..], line, &mut out[written..]);
+    let waves = row.waves;
+    Took {
+        waves,
+        used: used + row.used,
+        written: written + row.written,
+        refusal: row.refusal,
     }
 }
 
