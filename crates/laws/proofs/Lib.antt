@@ -6,6 +6,7 @@ pub mod Kept
 pub mod Watched
 pub mod Lifted
 pub mod Safety
+pub mod Ages
 pub mod Images
 pub mod Wall
 pub mod Ground

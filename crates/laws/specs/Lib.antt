@@ -1,6 +1,8 @@
 pub mod Bounds
 pub mod Reached
 pub mod GroundModel
+pub mod Times
+pub mod Ages
 pub mod Laws
 pub mod Cases
 pub mod Evenly
