@@ -7,27 +7,26 @@ use mathlib.Core.Option.{Option, none, some, orElse, Option·getD}
 use mathlib.Core.Path.{_≡_, refl, sym, _∙_}
 use Prim.Native.Nat.{ℕ, _+_, _≤_, zero-le, min}
 use native.Mathlib.Omega.{arith}
-use lib.Dec.{eqb}
 use Rattle.orders.specs.declared.Order.{Order}
 use Rattle.orders.specs.Timing.{oldest, order, grownAge, grown, allGrown, switched, directed, generalOf, ordersOf}
 use Rattle.controller.specs.declared.State.{State}
 use Rattle.controller.specs.Start.{offLong, freshOrders, freshCore, freshOf}
 use Rattle.controller.specs.Stages.{elapsedOf, turned, accepted}
-use Rattle.controller.specs.Steps.{refusalOf, stepAt}
 use Rattle.controller.specs.Samples.{Row, after}
 use Rattle.image.specs.Conditions.{AgesTo60000}
 use Rattle.laws.specs.Reached.Reached.{fresh}
-use Rattle.laws.specs.Times.{next, isTaken, acceptedAt, acceptedIn}
+use Rattle.laws.specs.Times.{next, acceptedAt, acceptedIn}
 use Rattle.laws.specs.Ages.{changesAt, sinceChange, timeSince, Timer, isOn, ageOf, AgesAreTimes}
 use Rattle.laws.specs.Ages.Timer.{ofGeneral, ofClose, ofOpen, ofRetract, ofExtend, ofHandle}
 use Rattle.laws.specs.Laws.{Always}
 use Rattle.laws.proofs.Stages.{stages, coreStages}
+use Rattle.laws.proofs.Samples.{at-sample}
 use Rattle.laws.proofs.Safety.{ages-to-60000}
 
 -- ---- One step
 
 -- An age after a sample at which this much time is accepted: 0 where it changes.
-abbrev grownOr : Bool → ℕ → ℕ → ℕ
+abbrev pub grownOr : Bool → ℕ → ℕ → ℕ
 grownOr changes age ms = cond changes 0 (min (age + ms) oldest)
 
 -- An order whose age has grown, and which is then switched.
@@ -58,20 +57,17 @@ same-age : (on : Bool) (age : ℕ) → age ≤ oldest → age ≡ grownOr (not (
 same-age true age h = omega arith
 same-age false age h = omega arith
 
-next-age :
+pub next-age :
     (timer : Timer) (s : State) (r : Row) →
     ageOf timer s ≤ oldest →
     ageOf timer (next s r) ≡ grownOr (changesAt (isOn timer) s r) (ageOf timer s) (acceptedAt s r)
-unfolding stepAt isTaken acceptedAt changesAt
-next-age timer s r h = either (eqb (refusalOf s (r .0) (r .1)) 0)
-  where
-    either :
-        (taken : Bool) →
-        ageOf timer (cond taken (accepted s (r .0) (r .1)) s) ≡
-        grownOr (not (Bool·beq (isOn timer s) (isOn timer (cond taken (accepted s (r .0) (r .1)) s)))) (ageOf timer s)
-        (cond taken (elapsedOf (s .stamp) (r .0)) 0)
-    either true = accepted-age timer s (r .0) (r .1)
-    either false = same-age (isOn timer s) (ageOf timer s) h
+unfolding changesAt
+next-age timer s r h =
+    at-sample
+    (λ (t : State) (ms : ℕ). ageOf timer t ≡ grownOr (not (Bool·beq (isOn timer s) (isOn timer t))) (ageOf timer s) ms)
+    s r
+    (accepted-age timer s (r .0) (r .1))
+    (same-age (isOn timer s) (ageOf timer s) h)
 
 -- ---- A list of samples
 
@@ -100,7 +96,7 @@ after-age timer s (r ∷ rs) h =
     after-age timer (next s r) rs (rw now (grown-to (changesAt (isOn timer) s r) (ageOf timer s) (acceptedAt s r))) ∙
     rw now (goes-on (sinceChange (isOn timer) (next s r) rs) (changesAt (isOn timer) s r) (ageOf timer s) (acceptedAt s r) (acceptedIn (next s r) rs))
 
-at-most : (timer : Timer) (s : State) → AgesTo60000 s → ageOf timer s ≤ oldest
+pub at-most : (timer : Timer) (s : State) → AgesTo60000 s → ageOf timer s ≤ oldest
 at-most ofGeneral s ages = ages .0
 at-most ofClose s ages = ages .1
 at-most ofOpen s ages = ages .2

@@ -6,7 +6,10 @@ pub mod Kept
 pub mod Watched
 pub mod Lifted
 pub mod Safety
+pub mod Samples
 pub mod Ages
+pub mod Starts
+pub mod Latched
 pub mod Images
 pub mod Wall
 pub mod Ground

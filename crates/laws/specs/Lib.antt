@@ -3,6 +3,8 @@ pub mod Reached
 pub mod GroundModel
 pub mod Times
 pub mod Ages
+pub mod Starts
+pub mod Latched
 pub mod Laws
 pub mod Cases
 pub mod Evenly
