@@ -6,6 +6,7 @@ pub mod Kept
 pub mod Watched
 pub mod Lifted
 pub mod Safety
+pub mod Elapsed
 pub mod Samples
 pub mod Ages
 pub mod Starts

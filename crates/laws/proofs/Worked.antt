@@ -6,6 +6,7 @@ use Rattle.voter.specs.Numbers.{numberOf}
 use Rattle.voter.specs.Cases.{voterCases, shown, afterP1}
 use Rattle.laws.specs.Cases.{
   shownAnswer,
+  answeredOverTheRound,
   answeredAfter,
   nothingSeen,
   stepFrom,
@@ -25,6 +26,6 @@ pub p1-to-p12 : AllAsWanted allCases
 unfolding
     rules
     voterCases shown afterP1 numberOf
-    shownAnswer answeredAfter nothingSeen stepFrom isOnAfter opensAtGeneral startsAtOpposite
+    shownAnswer answeredOverTheRound answeredAfter nothingSeen stepFrom isOnAfter opensAtGeneral startsAtOpposite
     generalAtOthers causeAtOpen causeAtHandle doorsDown stepCases allCases
 p1-to-p12 = refl

@@ -32,6 +32,14 @@ use Rattle.controller.specs.Samples.{sees}
 unfoldable pub shownAnswer : Answer → List ℕ
 shownAnswer a = a .refusal ∷ a .state .stamp ∷ []
 
+-- P4: a fresh start, the handle goes up at stamp 4,294,967,290, and the next sample comes at stamp 4. Beside its answer, the ages of
+-- the handle and of general_EV, which both changed at the sample before: what has elapsed since.
+unfoldable pub answeredOverTheRound : List ℕ
+answeredOverTheRound =
+    let up : List ℕ = sees 0 1 1 0 1 0 0 in
+    let answer : Answer = stepOf (stepOf (freshOf 4294967200) 4294967290 up .state) 4 up in
+    shownAnswer answer ++ answer .state .core .since ∷ answer .state .core .orders .general .age ∷ []
+
 -- P5: a fresh start at stamp 0, then a sample so many ms later.
 unfoldable pub answeredAfter : ℕ → List ℕ
 answeredAfter ms = shownAnswer (stepOf (freshOf 0) ms (sees 1 0 1 0 1 0 0))
@@ -115,6 +123,7 @@ doorsDown p = doorsNumber (stepFrom (coreFrom (generalOnly 1000 1000) oldest p) 
 unfoldable pub stepCases : List Case
 stepCases =
     record { name = "P4 stamps 4,294,967,290 then 4: elapsed 10"; gives = elapsedOf 4294967290 4 ∷ []; wanted = 10 ∷ [] } ∷
+    record { name = "P4 a step over the round: taken, and 10 ms have elapsed"; gives = answeredOverTheRound; wanted = 0 ∷ 4 ∷ 10 ∷ 10 ∷ [] } ∷
     record { name = "P5 elapsed 100 taken"; gives = answeredAfter 100; wanted = 0 ∷ 100 ∷ [] } ∷
     record { name = "P5 elapsed 101 refused"; gives = answeredAfter 101; wanted = 4 ∷ 0 ∷ [] } ∷
     record { name = "P6 general age 199 holds open_EV back, 200 starts it"; gives = opensAtGeneral 199 ∷ opensAtGeneral 200 ∷ []; wanted = 0 ∷ 1 ∷ [] } ∷

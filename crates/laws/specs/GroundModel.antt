@@ -1,6 +1,7 @@
 -- 001, Code 1: the ground model of doors and gears, driven by the handle alone, with no sensors. Each constructor is one
 -- assignment of the printed rules, in their order. Document 01 adds one case, which stands apart.
 -- Assumes nothing.
+use mathlib.Core.Logic.{_⊎_}
 use mathlib.Core.Path.{_≡_}
 use Rattle.sequence.specs.declared.Doors.{Doors}
 use Rattle.sequence.specs.declared.Doors.the-variants.{Closed, Opening, Open, Closing}
@@ -16,6 +17,14 @@ pub data HandleStatus : Type 0 where
 -- default init s0
 abbrev pub initial : Place
 initial = place Closed Extended
+
+-- invariant over gears, doors: (gears = EXTENDING or gears = RETRACTING) implies doors = OPEN
+abbrev pub FirstInvariant : Place → Type 0
+FirstInvariant p = (p .gears ≡ Extending) ⊎ (p .gears ≡ Retracting) → p .doors ≡ Open
+
+-- invariant over gears, doors: doors = CLOSED implies (gears = EXTENDED or gears = RETRACTED)
+abbrev pub SecondInvariant : Place → Type 0
+SecondInvariant p = p .doors ≡ Closed → (p .gears ≡ Extended) ⊎ (p .gears ≡ Retracted)
 
 -- rule r_closeDoor
 pub data CloseDoor : Doors → Doors → Type 0 where

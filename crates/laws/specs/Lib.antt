@@ -1,6 +1,7 @@
 pub mod Bounds
 pub mod Reached
 pub mod GroundModel
+pub mod Elapsed
 pub mod Times
 pub mod Ages
 pub mod Starts
