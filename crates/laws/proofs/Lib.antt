@@ -18,3 +18,4 @@ pub mod Computing
 pub mod Worked
 pub mod Sometimes
 pub mod Printed
+pub mod CauseRuns

@@ -23,9 +23,12 @@ use Rattle.laws.specs.GroundModel.HandleStatus.{UP, DOWN}
 abbrev pub doorsOutWithoutRed : State → Bool
 doorsOutWithoutRed s = not (areClosed (doorsOf s)) && not (red s)
 
--- The cause is the last of the thirteen.
+-- This is the cause; it is the last of the thirteen.
+abbrev pub hasCause : ℕ → State → Bool
+hasCause n s = eqb (s .core .cause) n
+
 abbrev pub hasLastCause : State → Bool
-hasLastCause s = eqb (s .core .cause) lastCause
+hasLastCause = hasCause lastCause
 
 -- Every age is the largest.
 abbrev pub hasLargestAges : State → Bool

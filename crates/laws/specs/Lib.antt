@@ -13,3 +13,4 @@ pub mod Lesson
 pub mod AsPrinted
 pub mod HandedOver
 pub mod Wall
+pub mod CauseRuns
