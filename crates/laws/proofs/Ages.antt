@@ -4,10 +4,9 @@
 use mathlib.Core.Bool.{Bool, true, false, cond, not, Bool·beq}
 use mathlib.Core.List.{List, [], _∷_}
 use mathlib.Core.Option.{Option, none, some, orElse, Option·getD}
-use mathlib.Core.Path.{_≡_, refl, sym, _∙_}
+use mathlib.Core.Path.{_≡_, refl, _∙_}
 use Prim.Native.Nat.{ℕ, _+_, _≤_, zero-le, min}
 use native.Mathlib.Omega.{arith}
-use Rattle.orders.specs.declared.Order.{Order}
 use Rattle.orders.specs.Timing.{oldest, order, grownAge, grown, allGrown, switched, directed, generalOf, ordersOf}
 use Rattle.controller.specs.declared.State.{State}
 use Rattle.controller.specs.Start.{offLong, freshOrders, freshCore, freshOf}

@@ -13,7 +13,7 @@ use Rattle.controller.specs.declared.State.{State}
 use Rattle.controller.specs.Stages.{elapsedOf, accepted}
 use Rattle.laws.specs.Times.{next}
 use Rattle.laws.specs.Ages.{Timer, isOn}
-use Rattle.laws.specs.Ages.Timer.{ofGeneral, ofClose, ofOpen, ofRetract, ofExtend}
+use Rattle.laws.specs.Ages.Timer.{ofGeneral}
 use Rattle.laws.specs.Starts.{Opposites, WasOn, WasOff, StartsAfterItsWaits, NoneStartsAsItsOppositeStops}
 use Rattle.laws.specs.Starts.Opposites.{close-open, open-close, retract-extend, extend-retract}
 use Rattle.laws.specs.Laws.{Always}

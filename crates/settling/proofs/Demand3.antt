@@ -5,6 +5,7 @@ use mathlib.Core.Bool.{Bool, true, false, not, _&&_, Bool·beq}
 use mathlib.Core.List.{List, [], _∷_}
 use mathlib.Core.Path.{_≡_, refl, _∙_, ap}
 use Prim.Native.Nat.{ℕ, _+_, _≤_}
+use native.Mathlib.Omega.{arith}
 use lib.Dec.{T, eqb, ltb, eqb→eq, nltb→le, lit<}
 use lib.ListN.{length}
 use mir.Facts.{and-yes}
@@ -108,11 +109,15 @@ unfolding elapsedIn elapsedTold
 elapsed-told s [] = refl
 elapsed-told s (r ∷ rs) = ap (λ (n : ℕ). elapsedOf (s .stamp) (r .0) + n) (elapsed-told (next s r) rs)
 
+-- The first sample counts as 0 ms.
+since-told : (s : State) (first : Row) (rest : List Row) → elapsedSince s (first ∷ rest) ≡ elapsedTold (allToldBy (next s first) rest)
+unfolding elapsedIn elapsedSince
+since-told s first rest = omega (arith, elapsed-told (next s first) rest)
+
 -- What holds of every run of the core holds of every run of samples.
 by-the-core : (Says : ℕ → Aim → Core → Type 0) → OfEveryCoreRun limit Says → OfEveryRun Says
-unfolding elapsedSince
 by-the-core Says ofTheCore s reached down first rest stays =
-    rw (core-after down s (first ∷ rest) stays, elapsed-told (next s first) rest)
+    rw (core-after down s (first ∷ rest) stays, since-told s first rest)
     (ofTheCore (aimOf down) (s .core) (moving-gears-have-doors-open s reached) (toldBy s first) (allToldBy (next s first) rest)
     (all-within down (next s first) rest (goes-on down s first rest stays)))
 

@@ -2,38 +2,29 @@
 -- held for so long, and that one can settle without red.
 -- Assumes nothing.
 use mathlib.Core.Bool.{Bool, true, false, not}
-use mathlib.Core.List.{List, _∷_}
 use mathlib.Core.Path.{_≡_, refl, ap, subst, subst⁻¹}
 use Prim.Native.Nat.{ℕ, _+_, _-_, _≤_}
 use lib.Dec.{T}
-use Rattle.sequence.specs.Moves.{aimOf}
-use Rattle.controller.specs.Stages.{anomaly}
 use Rattle.controller.specs.Steps.{limit}
-use Rattle.controller.specs.Samples.{Row, after}
 use Rattle.laws.specs.Bounds.{boundFor, bound}
 use Rattle.laws.specs.Reached.{Reached}
-use Rattle.laws.specs.Times.{isTaken}
 use Rattle.laws.specs.Reached.Reached.{fresh}
+use Rattle.laws.specs.Times.{isTaken}
 use Rattle.laws.proofs.Computing.{runs}
 use Rattle.settling.specs.Runs.{handleSays, held, elapsedIn, elapsedSince}
 use Rattle.settling.specs.Settled.{settled, UnsettledIsEarly, OfEveryRun}
-use Rattle.settling.specs.WorstRuns.{rowsFrom, start, firstRow, stretches, closedAtLast, late, latest, unpressurized}
-
--- What a run with the handle up shows at its last sample.
-record Shown : Type 0 where
-  isHeld : Bool
-  since : ℕ
-  isRed : Bool
-  isSettled : Bool
-
-abbrev shown : List Row → Shown
-shown rest =
-    record {
-      isHeld = held false start (firstRow ∷ rest);
-      since = elapsedSince start (firstRow ∷ rest);
-      isRed = anomaly (after start (firstRow ∷ rest) .core);
-      isSettled = settled (aimOf false) (after start (firstRow ∷ rest) .core);
-    }
+use Rattle.settling.specs.WorstRuns.{
+  rowsFrom,
+  start,
+  firstRow,
+  stretches,
+  closedAtLast,
+  late,
+  latest,
+  unpressurized,
+  Shown,
+  shown,
+}
 
 pub starts-fresh : Reached start
 unfolding start

@@ -2,13 +2,18 @@
 -- ends just short of its threshold and so takes one step more, and what an order is for is seen only where its monitor would else find
 -- a cause.
 -- Assumes nothing.
+use mathlib.Core.Bool.{Bool, false}
 use mathlib.Core.List.{List, [], _∷_, _++_}
 use Prim.Native.Nat.{ℕ, _+_, _*_}
 use lib.ListN.{replicate}
+use Rattle.sequence.specs.Moves.{aimOf}
 use Rattle.controller.specs.declared.State.{State}
 use Rattle.controller.specs.Start.{freshOf}
-use Rattle.controller.specs.Samples.{sees, Row}
+use Rattle.controller.specs.Stages.{anomaly}
+use Rattle.controller.specs.Samples.{sees, Row, after}
 use Rattle.laws.specs.Evenly.{evenly}
+use Rattle.settling.specs.Runs.{held, elapsedSince}
+use Rattle.settling.specs.Settled.{settled}
 
 -- Some samples with the same bytes, each so many ms after the one before.
 pub record Stretch : Type 0 where
@@ -70,3 +75,22 @@ latest = rowsFrom 1001 (stretches ++ closedAtLast ∷ [])
 -- No pressure while general_EV is on for 2,000 ms.
 unfoldable pub unpressurized : List Row
 unpressurized = rowsFrom 1001 (stretch 20 100 1 0 0 0 0 ∷ [])
+
+-- ---- What is said of these runs
+
+-- What a run with the handle up shows at its last sample: the handle was held, the time since its first sample, red, settled.
+pub record Shown : Type 0 where
+  pub isHeld : Bool
+  pub since : ℕ
+  pub isRed : Bool
+  pub isSettled : Bool
+
+-- The run of the first sample and these.
+abbrev pub shown : List Row → Shown
+shown rest =
+    record {
+      isHeld = held false start (firstRow ∷ rest);
+      since = elapsedSince start (firstRow ∷ rest);
+      isRed = anomaly (after start (firstRow ∷ rest) .core);
+      isSettled = settled (aimOf false) (after start (firstRow ∷ rest) .core);
+    }
