@@ -4,3 +4,4 @@ pub mod Refusals
 pub mod EachRow
 pub mod PerRow
 pub mod Laws
+pub mod Between

@@ -1,3 +1,4 @@
 pub mod Told
 pub mod RowLaws
 pub mod Shown
+pub mod Between

@@ -7,3 +7,4 @@ pub mod Stays
 pub mod CoreSettles
 pub mod Demand3
 pub mod Worst
+pub mod Sequences
