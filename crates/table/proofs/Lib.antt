@@ -1,2 +1,5 @@
+pub mod Constant
 pub mod Entries
+pub mod Exchange
 pub mod Once
+pub mod Weights

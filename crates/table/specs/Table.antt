@@ -78,9 +78,13 @@ rowAt k = givenFrom ruledAt (8 * k) 8
 unfoldable pub table : List (List ℕ)
 table = givenFrom rowAt 0 64
 
+-- The entry of a number among rows of eight.
+abbrev pub entryOf : List (List ℕ) → ℕ → ℕ
+entryOf rows n = getD (getD rows (n / 8) []) (n % 8) 0
+
 -- What the table tells at a number.
 unfoldable pub entryAt : ℕ → Place
-entryAt n = placeAt (getD (getD table (n / 8) []) (n % 8) 0)
+entryAt n = placeAt (entryOf table n)
 
 -- ---- Entries that can be asked
 

@@ -1,11 +1,21 @@
 // The sequence as a table (request K4): what comes next at each place of handle, doors, gears and the four facts.
 // The rule is specs/Table.antt, which says what each entry is by the rule of `sequence`; the constant is proved to be that table.
 ghost use mathlib.Core.Path.{_≡_};
-ghost use Prim.Native.Nat.{_<_, _/_, _%_};
-ghost use mathlib.Core.List.{[]};
-ghost use lib.ListN.{getD};
+ghost use Prim.Native.Nat.{_<_};
 ghost use Rattle.sequence.specs.Moves.{aimOf, moveOf};
-ghost use Rattle.table.specs.Table.{entries, factsNumber, numberOf, factsAt, askedAt, nextOf, placeAt, table};
+ghost use Rattle.table.specs.Sums.{weighedAt, tableNumber};
+ghost use Rattle.table.specs.Table.{
+  entries,
+  factsNumber,
+  numberOf,
+  factsAt,
+  askedAt,
+  nextOf,
+  placeNumber,
+  placeAt,
+  table,
+  entryOf,
+};
 ghost use Rattle.sequence.specs.Numbers.{handleNumber};
 use sequence::Aim;
 use sequence::Doors;
@@ -29,6 +39,26 @@ pub fn moved(place: Place, aim: Aim, seen: Seen) -> Place
 {
     let asked = Asked { aim, place, seen };
     asked.next()
+}
+
+// The constant that the table is.
+pub fn all_entries() -> [[u8; 8]; 64]
+    ensures { λ r. ⌜ r ≡ table ⌝ }
+{
+    NEXT
+}
+
+// The table as one number, computed from what it tells at each entry, so that what was printed of it can be held to what runs.
+pub fn table_number() -> u64
+    ensures { λ r. ⌜ r ≡ tableNumber ⌝ }
+{
+    let mut sum = 0;
+    let mut n = 0;
+    while n < ENTRIES {
+        sum += weighed(n);
+        n += 1;
+    }
+    sum
 }
 
 impl Asked {
@@ -221,10 +251,28 @@ fn place_at(entry: u8) -> Place
     }
 }
 
+// Doors and gears as an entry holds them.
+fn place_number(place: Place) -> u64
+    ensures { λ r. ⌜ r ≡ placeNumber place ⌝ }
+{
+    let doors = place.doors;
+    let gears = place.gears;
+    4 * (doors.number() as u64) + (gears.number() as u64)
+}
+
+// What the entry of a number adds to the table's number.
+fn weighed(n: usize) -> u64
+    requires { ⌜ n < entries ⌝ }
+    ensures { λ r. ⌜ r ≡ weighedAt n ⌝ }
+{
+    let asked = Asked::numbered(n);
+    (n as u64 + 1) * place_number(asked.next())
+}
+
 // The entry of a number.
 fn entry(n: usize) -> u8
     requires { ⌜ n < entries ⌝ }
-    ensures { λ r. ⌜ r ≡ getD (getD table (n / 8) []) (n % 8) 0 ⌝ }
+    ensures { λ r. ⌜ r ≡ entryOf table n ⌝ }
 {
     NEXT[n / 8][n % 8]
 }
