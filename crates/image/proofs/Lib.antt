@@ -4,6 +4,8 @@ pub mod Ranged
 pub mod Strung
 pub mod Filling
 pub mod Pieces
+pub mod Searching
+pub mod Faulty
 pub mod Loading
 pub mod Mirrors
 pub mod Keeping

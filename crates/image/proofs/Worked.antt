@@ -1,6 +1,8 @@
 -- The worked images come out as they should: the rules compute.
 -- Assumes nothing.
-use mathlib.Core.Path.{refl}
+use mathlib.Core.Bool.{true}
+use mathlib.Core.Path.{_≡_, refl}
+use lib.ListN.{replicate}
 use Rattle.common.specs.Case.{AllAsWanted}
 use Rattle.voter.specs.Numbers.{numberOf, channelsAt}
 use Rattle.voter.specs.Items.{sensorItems, sensorIn}
@@ -23,8 +25,10 @@ use Rattle.image.specs.Items.{
   stateIn,
 }
 use Rattle.image.specs.Rules.{rules, rulesHold}
-use Rattle.image.specs.Images.{imageOf, fits, loadedAt, refusalOf}
-use Rattle.image.specs.Cases.{fresh, opening, extending, imageCases}
+use Rattle.image.specs.Images.{size, imageOf, fits, loadedAt, refusalOf}
+use Rattle.image.specs.declared.Fault.the-variants.{Item, Rule}
+use Rattle.image.specs.Faults.{firstOut, firstBroken, faultOf, allZero, isBlank}
+use Rattle.image.specs.Cases.{extendAge, doors, with, fresh, opening, extending, imageCases}
 
 pub as-worked : AllAsWanted imageCases
 unfolding
@@ -37,3 +41,26 @@ unfolding
     imageOf fits loadedAt refusalOf
     fresh opening extending imageCases
 as-worked = refl
+
+-- What is wrong with an image is named: here an age, and a rule.
+pub age-named : faultOf (bytesOf (with extendAge 60001 fresh)) ≡ Item extendAge
+unfolding
+    fourBytes itemFrom bytesOf itemsIn
+    sensorsTops coreTops tops within
+    firstOut faultOf fresh
+age-named = refl
+
+pub rule-named : faultOf (bytesOf (with doors 1 fresh)) ≡ Rule 5
+unfolding
+    stepRules
+    numberOf channelsAt sensorItems sensorIn doorsAt gearsAt
+    fourBytes itemFrom bytesOf itemsIn
+    sensorsTops coreTops tops within sensorsIn stateIn
+    rules rulesHold movingHaveOpen loadedAt
+    firstBroken faultOf fresh
+rule-named = refl
+
+-- 204 zero bytes are an image by K3, and are told.
+pub zeros-are-blank : isBlank (replicate size 0) ≡ true
+unfolding itemFrom itemsIn allZero isBlank
+zeros-are-blank = refl

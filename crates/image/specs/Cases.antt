@@ -4,13 +4,13 @@
 use Prim.Native.Nat.{ℕ, _+_, _*_}
 use Prim.Native.String.{String}
 use mathlib.Core.List.{List, [], _∷_, _++_}
-use lib.ListN.{length, take, drop, set}
+use lib.ListN.{length, take, drop, set, replicate}
 use Rattle.common.specs.Case.{Case}
 use Rattle.controller.specs.Votes.{analogicalSwitch, circuitPressurized}
 use Rattle.controller.specs.Start.{freshOf}
 use Rattle.voter.specs.Items.{itemsPerSensor}
 use Rattle.image.specs.Xdr.{bytesOf, itemsIn}
-use Rattle.image.specs.Items.{firstOrder}
+use Rattle.image.specs.Items.{firstOrder, itemCount}
 use Rattle.image.specs.Images.{imageOf, refusalOf}
 
 -- ---- Items by their places, counted from 0
@@ -110,6 +110,7 @@ imageCases =
     gives "channel 3 struck" (with (voterOf circuitPressurized) 3 fresh) 0 ∷
     gives "a sensor invalid, cause 13" (with (voterOf analogicalSwitch) 4 (with cause 13 fresh)) 0 ∷
     gives "doors OPENING, general_EV off, cause 2" (with doors 1 (with cause 2 fresh)) 0 ∷
+    gives "every item 0" (replicate itemCount 0) 0 ∷
     -- 11: a rule broken
     gives "gears EXTENDING, doors CLOSED" (with gears 1 fresh) 11 ∷
     gives "close_EV on, doors CLOSED" (with closeOn 1 (with generalOn 1 fresh)) 11 ∷

@@ -1,11 +1,12 @@
 // The image of a controller (request K3): items of RFC 4506, four bytes each, by which a lesson goes on at another laptop.
 // The rule is specs/: Xdr.antt (an item), Items.antt (the items of a controller, their ranges, and the controller that items are of),
-// Rules.antt (what an image must keep to), Images.antt (saving, loading and the refusals). specs/Conditions.antt says condition by
-// condition which images are taken, and proofs/Exact.antt that it is so exactly.
+// Rules.antt (what an image must keep to), Images.antt (saving, loading and the refusals), Faults.antt (what is wrong with an image that
+// is refused). specs/Conditions.antt says condition by condition which images are taken, and proofs/Exact.antt that it is so exactly.
 ghost use mathlib.Core.Path.{_≡_};
 ghost use Rattle.image.specs.Xdr.{itemsIn};
 ghost use Rattle.image.specs.Items.{itemAt};
 ghost use Rattle.image.specs.Images.{saveOf, loadOf};
+ghost use Rattle.image.specs.Faults.{faultOf, isBlank};
 
 mod items;
 mod ranges;
@@ -29,6 +30,18 @@ const SENSORS: usize = 18;
 
 // Items of the orders, on and age of five, and handle age, doors, gears, cause (`coreWidth`).
 const CORE: usize = 14;
+
+// What is wrong with an image.
+pub enum Fault {
+    // Nothing: it is taken.
+    Nothing,
+    // It has not the length of an image.
+    Length,
+    // The first item that is out of its range, counted from 0.
+    Item(usize),
+    // The first rule that is broken, counted from 0 in the order of specs/Rules.antt.
+    Rule(usize),
+}
 
 // Saves a controller into a lent buffer: 0, or 8 where the buffer is shorter than an image.
 pub fn save(state: State, out: &mut [u8]) -> u8
@@ -61,6 +74,39 @@ pub fn load(before: State, image: &[u8], stamp: u32) -> Answer
         refusal: 10,
         state: before,
     }
+}
+
+// What is wrong with an image: where `load` answers 0 it is nothing, where it answers 10 the length or an item, and at 11 a rule.
+pub fn find_fault(image: &[u8]) -> Fault
+    ensures { λ r. ⌜ r ≡ faultOf (now (image .entry)) ⌝ }
+{
+    if image.len() != SIZE {
+        return Fault::Length;
+    }
+    let k = ranges::first_out(image);
+    if k != ITEMS {
+        return Fault::Item(k);
+    }
+    let state = items::state_in(image, 0);
+    let rule = rules::first_broken(state);
+    if rule != rules::RULES {
+        return Fault::Rule(rule);
+    }
+    Fault::Nothing
+}
+
+// Whether every item is 0: what a write leaves that was lost.
+pub fn is_blank(image: &[u8]) -> bool
+    ensures { λ r. ⌜ r ≡ isBlank (now (image .entry)) ⌝ }
+{
+    let count = image.len() / xdr::ITEM;
+    let mut all = true;
+    let mut k = 0;
+    while k < count {
+        all = all & (xdr::item(image, k) == 0);
+        k += 1;
+    }
+    all
 }
 
 // The last stamp that an image bears; 0 where it has not even that item.

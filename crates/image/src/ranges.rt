@@ -3,8 +3,9 @@ ghost use mathlib.Core.Path.{_≡_};
 ghost use Prim.Native.Nat.{_<_};
 ghost use lib.ListN.{length};
 ghost use Rattle.image.specs.Xdr.{itemsIn};
-ghost use Rattle.image.specs.Items.{itemCount, tops, within, itemAt};
+ghost use Rattle.image.specs.Items.{itemCount, tops, itemAt};
 ghost use Rattle.image.specs.Images.{size, fits};
+ghost use Rattle.image.specs.Faults.{firstOut};
 use crate::CORE;
 use crate::FIRST_ORDER;
 use crate::ITEMS;
@@ -36,23 +37,24 @@ pub(crate) fn fits(image: &[u8]) -> bool
     ensures { λ r. ⌜ r ≡ fits (now (image .entry)) ⌝ }
 {
     if image.len() == SIZE {
-        return all_within(image);
+        return first_out(image) == ITEMS;
     }
     false
 }
 
-// Whether every item is in its range.
-fn all_within(image: &[u8]) -> bool
+// The place of the first item that is out of its range, or how many there are.
+pub(crate) fn first_out(image: &[u8]) -> usize
     requires { ⌜ length (now image) ≡ size ⌝ }
-    ensures { λ r. ⌜ r ≡ within tops (itemsIn (now (image .entry))) ⌝ }
+    ensures { λ r. ⌜ r ≡ firstOut tops (itemsIn (now (image .entry))) ⌝ }
 {
-    let mut all = true;
     let mut k = 0;
     while k < ITEMS {
-        all = all & (xdr::item(image, k) <= top(k));
+        if top(k) < xdr::item(image, k) {
+            return k;
+        }
         k += 1;
     }
-    all
+    k
 }
 
 // The most that item k may be: any stamp, the voter's tops over and over, then those of the core.

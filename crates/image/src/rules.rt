@@ -1,12 +1,38 @@
 // Whether the controller that an image is of keeps the rules of request K3 (specs/Rules.antt).
 ghost use mathlib.Core.Path.{_≡_};
-ghost use Rattle.image.specs.Rules.{rulesHold};
+ghost use Rattle.image.specs.Rules.{rules, rulesHold};
+ghost use Rattle.image.specs.Faults.{firstBroken};
 use controller::State;
 use orders::Wanted;
+
+// There are so many rules.
+pub(crate) const RULES: usize = 7;
 
 // Whether every rule is kept.
 pub(crate) fn hold(state: State) -> bool
     ensures { λ r. ⌜ r ≡ rulesHold state ⌝ }
+{
+    first_broken(state) == RULES
+}
+
+// The place of the first rule that is broken, or how many there are.
+pub(crate) fn first_broken(state: State) -> usize
+    ensures { λ r. ⌜ r ≡ firstBroken (rules state) ⌝ }
+{
+    let tests = tests(state);
+    let mut k = 0;
+    while k < RULES {
+        if !tests[k] {
+            return k;
+        }
+        k += 1;
+    }
+    k
+}
+
+// The rules, each as a test.
+fn tests(state: State) -> [bool; RULES]
+    ensures { λ r. ⌜ r ≡ rules state ⌝ }
 {
     let core = state.core;
     let orders = core.orders;
@@ -15,11 +41,13 @@ pub(crate) fn hold(state: State) -> bool
     let red = core.cause != 0;
     let wanted = Wanted::at(place, red);
     let general = orders.general.on;
-    place.moving_have_open()
-        & (!orders.closes.on | (wanted.closes & general))
-        & (!orders.opens.on | (wanted.opens & general))
-        & (!orders.retracts.on | (wanted.retracts & general))
-        & (!orders.extends.on | (wanted.extends & general))
-        & (!(!doors.are_closed() & !red) | general)
-        & (!state.invalid() | red)
+    [
+        place.moving_have_open(),
+        !orders.closes.on | (wanted.closes & general),
+        !orders.opens.on | (wanted.opens & general),
+        !orders.retracts.on | (wanted.retracts & general),
+        !orders.extends.on | (wanted.extends & general),
+        !(!doors.are_closed() & !red) | general,
+        !state.invalid() | red,
+    ]
 }

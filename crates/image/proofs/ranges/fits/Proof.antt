@@ -1,21 +1,25 @@
--- `image::ranges::fits` meets its contract: by the length.
+-- `image::ranges::fits` meets its contract: by the length, and no item is found out of its range.
 -- Assumes nothing.
-use borrow.Author.Tests.{eq-eqb, ne-eqb}
+use Prim.Native.Nat.{ℕ}
+use mathlib.Core.Path.{sym, ap, _∙_}
+use borrow.Author.Tests.{ne-eqb}
+use lib.Dec.{eqb}
+use Rattle.image.specs.Items.{itemCount}
 use Rattle.image.specs.Images.{fits}
+use Rattle.image.proofs.Faulty.{fits-ranged}
 use borrow.Author.Needs.{needs}
 use Rattle.image.proofs.ranges.fits.Statement.{statement}
 use Rattle.image.proofs.ranges.fits.Tie as tie
 
-all-within-requires : tie.Need-all-within-requires
-all-within-requires c κs = search needs
+first-out-requires : tie.Need-first-out-requires
+first-out-requires c κs = search needs
 
 returns : tie.Need-returns
-unfolding fits
-returns c = simp (c .all-within .ensures, eq-eqb _ _ (c .before .if1 .taken))
+returns c = ap (λ (k : ℕ). eqb k itemCount) (c .first-out .ensures) ∙ sym (fits-ranged _ (c .before .if1 .taken))
 
 returns-2 : tie.Need-returns-2
 unfolding fits
 returns-2 c = simp (ne-eqb _ _ (c .if1 .left))
 
 pub fits-spec : {M : Type 1} → statement M
-fits-spec = tie.close (tie.spec all-within-requires returns returns-2)
+fits-spec = tie.close (tie.spec first-out-requires returns returns-2)
