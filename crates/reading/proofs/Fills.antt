@@ -16,10 +16,10 @@ use Rattle.reading.specs.declared.Came.the-variants.{Nothing}
 use Rattle.reading.specs.declared.Run.{Run}
 use Rattle.reading.specs.declared.Next.{Next}
 use Rattle.reading.specs.Rows.{hasEnded}
-use Rattle.reading.specs.Parts.{lineBytes, takeOf}
-use Rattle.reading.specs.Runs.{Teller, Outcome, behind, Answer, calls, takeBy, toCome, Right, wrote}
-use Rattle.reading.specs.Fills.{untouched, goesOn, callFrom, joined, turnFrom, fillFrom, fillBy, Filled}
-use Rattle.reading.proofs.ByParts.{take-right}
+use Rattle.reading.specs.Parts.{lineBytes, takeOf, finishOf}
+use Rattle.reading.specs.Runs.{Teller, Outcome, behind, Answer, calls, takeBy, finishBy, toCome, Right, wrote}
+use Rattle.reading.specs.Fills.{untouched, goesOn, callFrom, joined, turnFrom, fillFrom, fillBy, Filled, Finished}
+use Rattle.reading.proofs.ByParts.{take-right, finish-right}
 
 -- ---- What the test says
 
@@ -35,6 +35,11 @@ record Goes {A : Type 0} (room : ℕ) (part : List ℕ) (so-far : Answer A) : Ty
 goes : {A : Type 0} (room : ℕ) (part : List ℕ) (so-far : Answer A) → goesOn room part so-far ≡ true → Goes room part so-far
 goes room part so-far t =
     let front = both-true _ _ (both-true _ _ t .0) in record { left = ltb-true _ _ (front .0); has-room = leb-true _ _ (front .1) }
+
+-- The end of the input is not refused where the line buffer is not.
+finish-taken : (run : Run) (line : List ℕ) → length line ≡ lineBytes → finishOf run line .0 .refusal ≡ 0
+unfolding finishOf
+finish-taken run line full = rw (eq-eqb (length line) lineBytes full)
 
 -- ---- Texts
 
@@ -235,6 +240,21 @@ module _ {A : Type 0} (tell : Teller A) (quiet : (a : A) (before after : State) 
         either (eqb (length line) lineBytes) (λ t. rw (s, t) (fill-right (eqb-true _ _ t) (leb-true _ _ s) .taken))
         (λ t. rw (s, t, refused-line (eqb-false _ _ t))))
         (λ s. rw (s, refused-out (leb-false _ _ s)))
+
+  -- ---- The end of the input
+
+  pub finish-all : (a : A) (run : Run) (line out : List ℕ) → length line ≡ lineBytes → room ≤ length out
+      → Finished tell a run line (finishBy tell room a run line out)
+  unfolding finishBy
+  finish-all a run line out full long =
+      let next = finishOf run line in
+      rw (le-ltb (length out) room long)
+      (record {
+        taken = finish-taken run line full;
+        all =
+            rw (take-append-seam (tell a (run .reading .state) (next .0 .came) (next .0 .run .reading .state) .1) _)
+            (finish-right tell quiet a run line full);
+      })
 
   -- ---- A loop that takes these turns
 

@@ -3,7 +3,7 @@
 -- Assumes nothing.
 use Prim.Native.Nat.{ℕ, zero, suc, _+_, _-_, _≤_, _<_}
 use mathlib.Core.Bool.{Bool, false, cond, not, _&&_}
-use mathlib.Core.List.{List, _++_}
+use mathlib.Core.List.{List, [], _++_}
 use mathlib.Core.Path.{_≡_}
 use lib.Dec.{eqb, leb, ltb}
 use lib.ListN.{length, take, drop}
@@ -77,3 +77,8 @@ pub record Filled {A : Type 0} (tell : Teller A) (a : A) (run : Run) (part line 
   pub same : (rest : List ℕ)
       → toCome tell a run line (part ++ rest)
       ≡ behind (wrote answer) (toCome tell (answer .0 .carried) (answer .0 .run) (answer .1) (drop (answer .0 .used) part ++ rest))
+
+-- And of the end of the input: nothing is refused, and what was to come is what is written, what is carried on and the run that is left.
+pub record Finished {A : Type 0} (tell : Teller A) (a : A) (run : Run) (line : List ℕ) (answer : Answer A) : Type 0 where
+  pub taken : answer .0 .refusal ≡ 0
+  pub all : toCome tell a run line [] ≡ (wrote answer, answer .0 .carried, answer .0 .run)
