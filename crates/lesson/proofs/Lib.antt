@@ -4,3 +4,4 @@ pub mod Restarts
 pub mod Worked
 pub mod Telling
 pub mod Writing
+pub mod Filling

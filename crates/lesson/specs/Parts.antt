@@ -5,6 +5,7 @@ use Prim.Native.Nat.{ℕ}
 use mathlib.Core.List.{List}
 use Rattle.reading.specs.declared.Run.{Run}
 use Rattle.reading.specs.Runs.{Answer, takeBy, finishBy, inAll}
+use Rattle.reading.specs.Fills.{turnFrom, fillBy}
 use Rattle.lesson.specs.declared.Took.{Took}
 use Rattle.lesson.specs.Replay.{textTold}
 
@@ -28,6 +29,24 @@ takeOf run part line out = tookOf (takeBy textTold room Prim.tt run part line ou
 -- The end of the input.
 unfoldable pub finishOf : Run → List ℕ → List ℕ → Took × List ℕ × List ℕ
 finishOf run line out = tookOf (finishBy textTold room Prim.tt run line out)
+
+-- ---- A whole part
+
+-- What was given so far, as an answer.
+abbrev pub answerOf : Took → List ℕ → List ℕ → Answer (Unit {0})
+answerOf took line out = (
+  record { run = took .run; carried = Prim.tt; used = took .used; written = took .written; refusal = took .refusal },
+  line,
+  out,
+)
+
+-- One row more.
+abbrev pub turnOf : Took → List ℕ → List ℕ → List ℕ → Took × List ℕ × List ℕ
+turnOf took part line out = tookOf (turnFrom textTold room part (answerOf took line out))
+
+-- The part row by row, as far as there is room.
+unfoldable pub fillOf : Run → List ℕ → List ℕ → List ℕ → Took × List ℕ × List ℕ
+fillOf run part line out = tookOf (fillBy textTold room Prim.tt run part line out)
 
 -- ---- All calls
 

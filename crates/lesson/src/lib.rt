@@ -3,10 +3,13 @@
 // `reading`: here is only what is written of a row. proofs/Law.antt says that however the input is cut, what is written in all is the output
 // of the whole. Request K3: a run may also go on from a controller that was handed over, and the controller that it leaves may be saved.
 ghost use mathlib.Core.Path.{_≡_};
-ghost use Prim.Native.Nat.{_≤_};
+ghost use Prim.Native.Nat.{_-_, _≤_};
+ghost use mathlib.Core.Bool.{_&&_, not};
+ghost use lib.Dec.{leb, ltb};
 ghost use lib.ListN.{length};
+ghost use Rattle.reading.specs.Rows.{hasEnded};
 ghost use Rattle.lesson.specs.Replay.{textBy};
-ghost use Rattle.lesson.specs.Parts.{takeOf, finishOf};
+ghost use Rattle.lesson.specs.Parts.{takeOf, finishOf, turnOf, fillOf};
 ghost use Rattle.lesson.specs.Writes.{bytesOf, told};
 use output::Written;
 use reading::Came;
@@ -49,6 +52,58 @@ pub fn finish(run: Run, line: &mut [u8], out: &mut [u8]) -> Took
     let next = run.finish(line);
     let written = tell(next, out);
     taken_in(next, written)
+}
+
+// Takes in a part of the input row by row, and writes what the rows give, each text behind the one before it, until the part is used up, a
+// refusal of a row has ended the reading, or less than 64 bytes are left in the output buffer. What is left of the part is for the next call.
+pub fn fill(run: Run, part: &[u8], line: &mut [u8], out: &mut [u8]) -> Took
+    ensures { λ r. ⌜ (r, now (line .exit), now (out .exit)) ≡ fillOf run (now (part .entry)) (now (line .entry)) (now (out .entry)) ⌝ }
+    ensures { λ r. ⌜ (r .used ≤ length (now (part .entry))) × (r .written ≤ length (now (out .entry))) ⌝ }
+{
+    if out.len() < ROOM {
+        return refused(run);
+    }
+    if line.len() != reading::LINE {
+        return refused(run);
+    }
+    let mut took = Took {
+        run,
+        used: 0,
+        written: 0,
+        refusal: 0,
+    };
+    while goes_on(took, part.len(), out.len()) {
+        took = turn(took, part, line, out);
+    }
+    took
+}
+
+// Whether there is a further row to take in: some of the part is left, there is room, and no refusal has ended the reading.
+fn goes_on(took: Took, size: usize, bytes: usize) -> bool
+    requires { ⌜ took .written ≤ bytes ⌝ }
+    ensures { λ r. ⌜ r ≡ (ltb (took .used) size && leb 64 (bytes - took .written) && not (hasEnded (took .run .reading .phase))) ⌝ }
+{
+    let run = took.run;
+    let phase = run.phase();
+    (took.used < size) & (ROOM <= bytes - took.written) & !phase.has_ended()
+}
+
+// The next row of the part, written behind what is written.
+fn turn(took: Took, part: &[u8], line: &mut [u8], out: &mut [u8]) -> Took
+    requires { ⌜ (took .used ≤ length (now part)) × (took .written ≤ length (now out)) ⌝ }
+    ensures { λ r. ⌜ (r, now (line .exit), now (out .exit)) ≡ turnOf took (now (part .entry)) (now (line .entry)) (now (out .entry)) ⌝ }
+    ensures { λ r. ⌜ (r .used ≤ length (now (part .entry))) × (r .written ≤ length (now (out .entry))) ⌝ }
+{
+    let from = took.used;
+    let at = took.written;
+    let row = take(took.run, &part[from..], line, &mut out[at..]);
+    let run = row.run;
+    Took {
+        run,
+        used: from + row.used,
+        written: at + row.written,
+        refusal: row.refusal,
+    }
 }
 
 // An output buffer that has no room.
