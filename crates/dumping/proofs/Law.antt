@@ -14,7 +14,7 @@ use Rattle.controller.specs.Start.{freshOf}
 use Rattle.reading.specs.declared.Phase.the-variants.{Ended}
 use Rattle.reading.specs.Parts.{lineBytes, runFrom}
 use Rattle.reading.specs.Runs.{Outcome, toCome, AllRoom, inputOf}
-use Rattle.reading.specs.Fills.{goesOn, Filled}
+use Rattle.reading.specs.Fills.{goesOn, Filled, Finished}
 use Rattle.reading.proofs.ByParts as by
 use Rattle.reading.proofs.Fills as fills
 use Rattle.dump.specs.declared.Dump.{Dump}
@@ -23,7 +23,7 @@ use Rattle.dump.specs.Writes.{startsWith}
 use Rattle.dumping.specs.declared.Waves.{Waves}
 use Rattle.dumping.specs.declared.Took.{Took}
 use Rattle.dumping.specs.Moments.{hasRow0, StartWith, momentsFrom, wavesFrom, wavesOf}
-use Rattle.dumping.specs.Parts.{given, fromRows, begunFrom, newWaves, room, answerOf, fillOf, writtenInAll}
+use Rattle.dumping.specs.Parts.{given, fromRows, begunFrom, newWaves, room, finishOf, answerOf, fillOf, writtenInAll}
 use Rattle.dumping.proofs.RowZero.{answered-exactly}
 use Rattle.dumping.proofs.Whole.{nothing-told, RiseIf, from-header}
 
@@ -81,7 +81,7 @@ module _ (lends : ℕ → List ℕ) (rooms : AllRoom room lends) (line : List �
       ap (λ (o : Outcome Dump). o .0)
       (by.ended-for-good given nothing-told room lends rooms (waves .dump) (waves .run) line parts at refusal h e)
 
--- A call of `fill`, by what the contract says of it:
+-- A call of `fill`, and of `finish`, by what the contract says of it:
 module _ (waves : Waves) (line out : List ℕ) (took : Took) (line′ out′ : List ℕ) where
   module _ (part : List ℕ) (e : (took, line′, out′) ≡ fillOf waves part line out) where
     -- refusal 8 exactly if the output buffer has no room for the head of a dump or the line buffer is not 512 bytes.
@@ -106,3 +106,12 @@ module _ (waves : Waves) (line out : List ℕ) (took : Took) (line′ out′ : L
     fill-ends full long =
         ap (λ (x : Took × List ℕ × List ℕ). goesOn room part (answerOf (x .0) (x .1) (x .2))) e
         ∙ fills.fill-ends given nothing-told room part (waves .dump) (waves .run) line out full long
+
+  -- The end of the input gives all that was to come.
+  pub finished : (took, line′, out′) ≡ finishOf waves line out → length line ≡ lineBytes → room ≤ length out
+      → Finished given (waves .dump) (waves .run) line (answerOf took line′ out′)
+  unfolding finishOf
+  finished e full long =
+      subst
+      (λ (x : Took × List ℕ × List ℕ). Finished given (waves .dump) (waves .run) line (answerOf (x .0) (x .1) (x .2)))
+      (sym e) (fills.finish-all given nothing-told room [] (waves .dump) (waves .run) line out full long)
