@@ -6,8 +6,8 @@ use mathlib.Core.List.{List, [], _∷_}
 use mathlib.Core.Path.{_≡_, refl, _∙_, subst, subst⁻¹}
 use Prim.Native.Nat.{ℕ, _+_, _≤_, _<_, zero-le, min}
 use native.Mathlib.Omega.{arith}
-use lib.Dec.{T, leb, eqb, leb→le, nleb→lt, eqb→eq, T-not, not-T, lit<}
-use borrow.Author.Tests.{le-leb}
+use lib.Dec.{T, leb, eqb, leb→le, nleb→lt, T-not, not-T, lit<}
+use borrow.Author.Tests.{eq-eqb, le-leb}
 use mir.Facts.{and-yes}
 use Rattle.sequence.specs.declared.Place.{Place}
 use Rattle.sequence.specs.Places.{areClosed}
@@ -22,7 +22,7 @@ use Rattle.controller.specs.Shows.{generalEV, closeEV, openEV, retractEV, exten
 use Rattle.controller.specs.Samples.{Row, after}
 use Rattle.laws.specs.Reached.{Reached}
 use Rattle.laws.specs.Reached.Reached.{step}
-use Rattle.laws.specs.Times.{next, isTaken, acceptedAt, acceptedIn}
+use Rattle.laws.specs.Times.{next, acceptedAt, acceptedIn}
 use Rattle.laws.specs.Ages.{changesAt, Timer, isOn, ageOf}
 use Rattle.laws.specs.Ages.Timer.{ofClose, ofOpen, ofRetract, ofExtend}
 use Rattle.laws.specs.Latched.{FourOff, Latched, OnceRed, GeneralByItsRule, GeneralOffIn}
@@ -139,10 +139,9 @@ once-red s reached isRed (r ∷ rs) =
 -- ---- General_EV
 
 pub general-by-its-rule : Always GeneralByItsRule
-unfolding isTaken acceptedAt
+unfolding acceptedAt
 general-by-its-rule s reached isRed r taken =
-    let refusal : ℕ = stepOf s (r .0) (r .1) .refusal in
-    rw (taken-is-accepted s (r .0) (r .1) (eqb→eq refusal 0 taken), true-of (eqb refusal 0) taken)
+    rw (taken-is-accepted s (r .0) (r .1) taken, eq-eqb (stepOf s (r .0) (r .1) .refusal) 0 taken)
     (accepted-general s isRed (r .0) (r .1))
 
 -- Each of the four is this old.

@@ -9,9 +9,10 @@ use Prim.Native.Nat.{ℕ, _≤_}
 use lib.Dec.{T}
 use Rattle.orders.specs.Timing.{allGrown, offTogether}
 use Rattle.controller.specs.declared.State.{State}
+use Rattle.controller.specs.Steps.{stepOf}
 use Rattle.controller.specs.Shows.{generalEV, closeEV, openEV, retractEV, extendEV, red}
 use Rattle.controller.specs.Samples.{Row, after}
-use Rattle.laws.specs.Times.{next, isTaken, acceptedAt, acceptedIn}
+use Rattle.laws.specs.Times.{next, acceptedAt, acceptedIn}
 
 -- The four orders are off.
 abbrev pub FourOff : State → Type 0
@@ -36,7 +37,7 @@ abbrev pub GeneralByItsRule : State → Type 0
 GeneralByItsRule s =
     T (red s) →
     (r : Row) →
-    T (isTaken s r) →
+    stepOf s (r .0) (r .1) .refusal ≡ 0 →
     generalEV (next s r) ≡ (generalEV s && not (offTogether (allGrown (acceptedAt s r) (s .core .orders))))
 
 -- So it is off once 1,000 ms have been accepted.

@@ -1,6 +1,6 @@
 -- Accepted time: what has elapsed at the samples that are accepted. A refused one adds nothing, whatever its stamp.
 -- Assumes nothing.
-use mathlib.Core.Bool.{Bool, cond}
+use mathlib.Core.Bool.{cond}
 use mathlib.Core.List.{List, [], _∷_}
 use Prim.Native.Nat.{ℕ, _+_}
 use lib.Dec.{eqb}
@@ -13,13 +13,9 @@ use Rattle.controller.specs.Samples.{Row}
 abbrev pub next : State → Row → State
 next s r = stepOf s (r .0) (r .1) .state
 
--- The sample is accepted.
-unfoldable pub isTaken : State → Row → Bool
-isTaken s r = eqb (stepOf s (r .0) (r .1) .refusal) 0
-
--- What a sample adds to the accepted time.
+-- What a sample adds to the accepted time: what has elapsed, or nothing if it is refused.
 unfoldable pub acceptedAt : State → Row → ℕ
-acceptedAt s r = cond (isTaken s r) (elapsedOf (s .stamp) (r .0)) 0
+acceptedAt s r = cond (eqb (stepOf s (r .0) (r .1) .refusal) 0) (elapsedOf (s .stamp) (r .0)) 0
 
 -- The accepted time of a list of samples.
 unfoldable pub acceptedIn : State → List Row → ℕ

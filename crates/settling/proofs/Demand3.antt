@@ -19,11 +19,10 @@ use Rattle.controller.specs.Stages.{elapsedOf, turned, accepted}
 use Rattle.controller.specs.Steps.{limit, someOverOne, refusalAt, stepAt, stepOf}
 use Rattle.controller.specs.Samples.{Row, after}
 use Rattle.laws.specs.Bounds.{boundFor, bound}
-use Rattle.laws.specs.Times.{next, isTaken}
 use Rattle.laws.proofs.Stages.{stages}
 use Rattle.laws.proofs.Lifted.{core-of-accepted, taken-is-accepted}
 use Rattle.laws.proofs.Safety.{moving-gears-have-doors-open}
-use Rattle.settling.specs.Runs.{handleSays, held, Held, elapsedIn, elapsedSince}
+use Rattle.settling.specs.Runs.{next, isTaken, handleSays, held, Held, elapsedIn, elapsedSince}
 use Rattle.settling.specs.Settled.{SettledWithin, UnsettledIsEarly, OfEveryRun}
 use Rattle.settling.specs.CoreRuns.{Told, coreNext, coreAfter, Within, elapsedTold, OfEveryCoreRun}
 use Rattle.settling.proofs.Quiet.{none-holds}

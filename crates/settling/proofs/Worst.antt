@@ -9,9 +9,8 @@ use Rattle.controller.specs.Steps.{limit}
 use Rattle.laws.specs.Bounds.{boundFor, bound}
 use Rattle.laws.specs.Reached.{Reached}
 use Rattle.laws.specs.Reached.Reached.{fresh}
-use Rattle.laws.specs.Times.{isTaken}
 use Rattle.laws.proofs.Computing.{runs}
-use Rattle.settling.specs.Runs.{handleSays, held, elapsedIn, elapsedSince}
+use Rattle.settling.specs.Runs.{isTaken, handleSays, held, elapsedIn, elapsedSince}
 use Rattle.settling.specs.Settled.{settled, UnsettledIsEarly, OfEveryRun}
 use Rattle.settling.specs.WorstRuns.{
   rowsFrom,

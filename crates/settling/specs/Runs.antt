@@ -4,18 +4,23 @@
 use mathlib.Core.Bool.{Bool, true, _&&_, Bool·beq}
 use mathlib.Core.List.{List, [], _∷_}
 use Prim.Native.Nat.{ℕ, _+_}
-use lib.Dec.{T}
+use lib.Dec.{T, eqb}
 use Rattle.controller.specs.declared.State.{State}
 use Rattle.controller.specs.Votes.{handle, sensor}
 use Rattle.controller.specs.Stages.{elapsedOf}
+use Rattle.controller.specs.Steps.{stepOf}
 use Rattle.controller.specs.Samples.{Row}
-use Rattle.laws.specs.Times.{next, isTaken}
+pub use Rattle.laws.specs.Times.{next}
 
--- After a sample the voted handle says this (true for down).
+-- The sample is accepted ..
+unfoldable pub isTaken : State → Row → Bool
+isTaken s r = eqb (stepOf s (r .0) (r .1) .refusal) 0
+
+-- .. and after it the voted handle says this (true for down).
 unfoldable pub handleSays : Bool → State → Row → Bool
 handleSays down s r = Bool·beq (sensor handle (next s r .voters)) down
 
--- Each sample of a run is accepted, and after it the handle says so.
+-- So it is with each sample of a run.
 unfoldable pub held : Bool → State → List Row → Bool
 held down s [] = true
 held down s (r ∷ rs) = isTaken s r && handleSays down s r && held down (next s r) rs
