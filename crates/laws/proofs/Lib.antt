@@ -19,3 +19,4 @@ pub mod Worked
 pub mod Sometimes
 pub mod Printed
 pub mod CauseRuns
+pub mod Loading

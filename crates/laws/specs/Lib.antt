@@ -14,3 +14,4 @@ pub mod AsPrinted
 pub mod HandedOver
 pub mod Wall
 pub mod CauseRuns
+pub mod Loading

@@ -1,0 +1,35 @@
+-- The laws hold of the controller in every image that is taken. Without K3's rules they would not: an image that breaks one has opposites
+-- together.
+-- Assumes nothing.
+use mathlib.Core.Path.{refl}
+use Rattle.voter.specs.Numbers.{channelsAt}
+use Rattle.voter.specs.Items.{sensorIn}
+use Rattle.sequence.specs.Numbers.{doorsAt, gearsAt}
+use Rattle.sequence.specs.Places.{movingHaveOpen}
+use Rattle.controller.specs.declared.State.{State}
+use Rattle.controller.proofs.Computing.{rules as stepRules}
+use Rattle.image.specs.Xdr.{fourBytes, itemFrom, bytesOf, itemsIn}
+use Rattle.image.specs.Items.{sensorsTops, coreTops, tops, within, sensorsIn, stateIn}
+use Rattle.image.specs.Rules.{rules, rulesHold}
+use Rattle.image.specs.Images.{fits, loadedAt, refusalOf}
+use Rattle.image.specs.Cases.{fresh, opening}
+use Rattle.image.proofs.Exact.{taken-holds}
+use Rattle.laws.specs.Reached.Reached.{loaded}
+use Rattle.laws.specs.Laws.{Always, OppositesNeverTogether}
+use Rattle.laws.specs.Loading.{FromImages, FromTakenImages, bothOn}
+
+-- What holds always holds of the controller in every image that is taken ..
+pub laws-from-taken-images : (Law : State → Type 0) → Always Law → FromTakenImages Law
+laws-from-taken-images Law always image taken stamp = always _ (loaded image (taken-holds image taken) stamp)
+
+-- .. and not of the one in every image that gets 11.
+pub not-where-a-rule-is-broken : FromImages 11 OppositesNeverTogether → ⊥
+unfolding
+    stepRules
+    channelsAt sensorIn doorsAt gearsAt
+    fourBytes itemFrom bytesOf itemsIn
+    sensorsTops coreTops tops within sensorsIn stateIn
+    rules rulesHold movingHaveOpen
+    fits loadedAt refusalOf
+    fresh opening bothOn
+not-where-a-rule-is-broken law = law bothOn refl 0 .0 tt tt
