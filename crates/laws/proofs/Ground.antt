@@ -20,9 +20,10 @@ use Rattle.controller.specs.Stages.{anomaly, agesStage, voteStage, monitorsStag
 use Rattle.controller.specs.Shows.{doorsOf, gearsOf}
 use Rattle.laws.specs.Laws.{Always, handleOf, FollowsTheGroundModel}
 use Rattle.laws.specs.GroundModel.{FirstInvariant, SecondInvariant, OneMoveOrNone, OfTheGroundModel}
-use Rattle.laws.specs.GroundModel.OneMoveOrNone.{no-move}
+use Rattle.laws.specs.GroundModel.OneMoveOrNone.{one-move, no-move}
+use Rattle.laws.specs.GroundModel.OfTheGroundModel.{initially, and-then}
 use Rattle.laws.proofs.Stages.{stages, coreStages}
-use Rattle.laws.proofs.Model.{unless-red, of-the-model}
+use Rattle.laws.proofs.Model.{unless-red, keeps-open, of-the-model}
 use Rattle.laws.proofs.Lifted.{step-keeps}
 use Rattle.laws.proofs.Safety.{moving-gears-have-doors-open}
 
@@ -63,7 +64,18 @@ second doors Retracted holds closed = inr refl
 second doors Extending holds closed = absurd (closed-is-not-open doors closed (holds (inl refl)))
 second doors Retracting holds closed = absurd (closed-is-not-open doors closed (holds (inr refl)))
 
--- The first invariant of 001, Code 1: "(gears = EXTENDING or gears = RETRACTING) implies doors = OPEN".
+-- The ground model keeps both, with the CLOSING case added.
+of-the-model-have-open : {p : Place} → OfTheGroundModel p → T (movingHaveOpen p)
+unfolding movingHaveOpen
+of-the-model-have-open initially = tt
+of-the-model-have-open (and-then before handle move) = keeps-open (one-move move) (of-the-model-have-open before)
+
+pub the-model-keeps-its-invariants : (p : Place) → OfTheGroundModel p → FirstInvariant p × SecondInvariant p
+the-model-keeps-its-invariants p of =
+    let holds = first p (of-the-model-have-open of) in
+    (holds, second (p .doors) (p .gears) holds)
+
+-- So does the controller. The first invariant of 001, Code 1: "(gears = EXTENDING or gears = RETRACTING) implies doors = OPEN".
 pub first-invariant : Always (λ (s : State). FirstInvariant (s .core .place))
 first-invariant s reached = first (s .core .place) (moving-gears-have-doors-open s reached)
 

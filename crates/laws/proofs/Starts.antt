@@ -2,23 +2,26 @@
 -- Assumes nothing.
 use mathlib.Core.Bool.{not, _&&_}
 use mathlib.Core.List.{List}
-use Prim.Native.Nat.{ℕ, _+_, _≤_}
+use mathlib.Core.Path.{_≡_}
+use Prim.Native.Nat.{ℕ, _+_, _≤_, min}
 use native.Mathlib.Omega.{arith}
 use lib.Dec.{T, leb, leb→le, T-not}
 use mir.Facts.{and-yes}
 use Rattle.orders.specs.declared.Order.{Order}
-use Rattle.orders.specs.Timing.{grownAge, grown, allGrown, onFor, offFor, ordersOf}
+use Rattle.orders.specs.Timing.{oldest, grownAge, grown, allGrown, onFor, offFor, ordersOf}
 use Rattle.orders.proofs.Laws.{starts-after-its-waits}
 use Rattle.controller.specs.declared.State.{State}
 use Rattle.controller.specs.Stages.{elapsedOf, accepted}
-use Rattle.laws.specs.Times.{next}
-use Rattle.laws.specs.Ages.{Timer, isOn}
+use Rattle.controller.specs.Samples.{after}
+use Rattle.laws.specs.Times.{next, acceptedAt}
+use Rattle.laws.specs.Ages.{Timer, isOn, ageOf}
 use Rattle.laws.specs.Ages.Timer.{ofGeneral}
-use Rattle.laws.specs.Starts.{Opposites, WasOn, WasOff, StartsAfterItsWaits, NoneStartsAsItsOppositeStops}
+use Rattle.laws.specs.Starts.{Opposites, WasOn, WasOff, StartsAfterItsWaits, StartsInTime, NoneStartsAsItsOppositeStops}
 use Rattle.laws.specs.Starts.Opposites.{close-open, open-close, retract-extend, extend-retract}
 use Rattle.laws.specs.Laws.{Always}
 use Rattle.laws.proofs.Stages.{stages, coreStages}
 use Rattle.laws.proofs.Samples.{at-sample}
+use Rattle.laws.proofs.Ages.{ages-are-times}
 
 -- ---- One accepted step
 
@@ -77,3 +80,16 @@ pub none-starts-as-its-opposite-stops : Always NoneStartsAsItsOppositeStops
 none-starts-as-its-opposite-stops s reached o opposite opposites r starts stops =
     T-not (isOn opposite s) (waits s o opposite opposites r starts .1 .0)
     (and-yes (isOn opposite s) (not (isOn opposite (next s r))) stops .0)
+
+-- ---- By accepted time
+
+-- An age is at most the time since.
+by-time : (ms age time added : ℕ) → age ≡ min time oldest → ms ≤ age + added → ms ≤ time + added
+by-time ms age time added same long = omega arith
+
+pub starts-in-time : Always StartsInTime
+starts-in-time s reached o opposite opposites rows r starts =
+    let waited = waits (after s rows) o opposite opposites r starts in (
+      by-time 200 (ageOf ofGeneral (after s rows)) _ (acceptedAt (after s rows) r) (ages-are-times s reached ofGeneral rows) (waited .0 .1),
+      by-time 100 (ageOf opposite (after s rows)) _ (acceptedAt (after s rows) r) (ages-are-times s reached opposite rows) (waited .1 .1),
+    )

@@ -40,6 +40,6 @@ GeneralByItsRule s =
     stepOf s (r .0) (r .1) .refusal ≡ 0 →
     generalEV (next s r) ≡ (generalEV s && not (offTogether (allGrown (acceptedAt s r) (s .core .orders))))
 
--- So it is off once 1,000 ms have been accepted.
+-- So it is off once so many ms have been accepted.
 abbrev pub GeneralOffIn : ℕ → State → Type 0
 GeneralOffIn ms s = T (red s) → (rows : List Row) → ms ≤ acceptedIn s rows → T (not (generalEV (after s rows)))

@@ -2,12 +2,13 @@
 -- was off with age 100 or more." And what it names as easy to get wrong: "Starting close_EV in the step that stops open_EV."
 -- Assumes nothing.
 use mathlib.Core.Bool.{Bool, not, _&&_}
+use mathlib.Core.List.{List}
 use Prim.Native.Nat.{ℕ, _+_, _≤_}
 use lib.Dec.{T}
 use Rattle.controller.specs.declared.State.{State}
-use Rattle.controller.specs.Samples.{Row}
+use Rattle.controller.specs.Samples.{Row, after}
 use Rattle.laws.specs.Times.{next, acceptedAt}
-use Rattle.laws.specs.Ages.{Timer, isOn, ageOf}
+use Rattle.laws.specs.Ages.{timeSince, Timer, isOn, ageOf}
 use Rattle.laws.specs.Ages.Timer.{ofGeneral, ofClose, ofOpen, ofRetract, ofExtend}
 
 -- One of the four orders, and its opposite.
@@ -44,3 +45,13 @@ StartsAfterItsWaits s =
     (r : Row) →
     T (startsAt o s r) →
     WasOn 200 ofGeneral s (acceptedAt s r) × WasOff 100 opposite s (acceptedAt s r)
+
+-- The same by accepted time, over any samples and the next one: general_EV last changed 200 ms before or more, and its opposite 100.
+abbrev pub StartsInTime : State → Type 0
+StartsInTime s =
+    (o opposite : Timer) →
+    Opposites o opposite →
+    (rows : List Row) (r : Row) →
+    T (startsAt o (after s rows) r) →
+    (200 ≤ timeSince (isOn ofGeneral) (ageOf ofGeneral s) s rows + acceptedAt (after s rows) r) ×
+    (100 ≤ timeSince (isOn opposite) (ageOf opposite s) s rows + acceptedAt (after s rows) r)
