@@ -107,7 +107,7 @@ at-most ofHandle s ages = ages .5
 pub ages-are-times : Always AgesAreTimes
 ages-are-times s reached timer rows = after-age timer s rows (at-most timer s (ages-to-60000 s reached))
 
--- From a fresh start every age begins with 60,000.
+-- Document 01: a fresh start gives "every age 60,000".
 pub ages-from-a-fresh-start :
     (start : ℕ) (timer : Timer) (rows : List Row) →
     ageOf timer (after (freshOf start) rows) ≡ min (timeSince (isOn timer) oldest (freshOf start) rows) oldest

@@ -53,8 +53,8 @@ ageOf ofRetract s = s .core .orders .retracts .age
 ageOf ofExtend s = s .core .orders .extends .age
 ageOf ofHandle s = s .core .since
 
--- After any samples an age is the accepted time since its order, or the handle, last changed, to 60,000; the samples begin with
--- the age that it has.
+-- After any samples an age is the accepted time since its order, or the handle, last changed, to 60,000. It goes on from the age
+-- that it has before them: 60,000 from a fresh start, at which nothing has changed yet.
 abbrev pub AgesAreTimes : State → Type 0
 AgesAreTimes s =
     (timer : Timer) (rows : List Row) → ageOf timer (after s rows) ≡ min (timeSince (isOn timer) (ageOf timer s) s rows) oldest
