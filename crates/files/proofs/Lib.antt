@@ -5,3 +5,6 @@ pub mod EachRow
 pub mod PerRow
 pub mod Laws
 pub mod Between
+pub mod Cutting
+pub mod Traces
+pub mod Cut

@@ -1,0 +1,25 @@
+-- Request K3, "Hand a lesson to another laptop": the file of a lesson that was not handed over, and the two files of the same lesson, handed
+-- over behind one of its rows.
+-- Assumes nothing.
+use Prim.Native.Nat.{ℕ}
+use mathlib.Core.List.{List, [], _∷_, _++_}
+use mathlib.Core.Path.{_≡_}
+use Rattle.controller.specs.declared.Shown.{Shown}
+use Rattle.files.specs.Traces.{Body, fileOf}
+
+-- The last of some rows shows this.
+abbrev pub LastShows : Shown → List Body → Type 0
+LastShows at [] = ⊥
+LastShows at (b ∷ []) = b .1 ≡ at
+LastShows at (b ∷ c ∷ bs) = LastShows at (c ∷ bs)
+
+-- But for their labels the rows of the two files are those of the one, without the second row 0, which shows where the lesson goes on: what
+-- the last row of the first file shows.
+pub record InTwoFiles (whole first second : List ℕ) : Type 0 where
+  pub done : List Body
+  pub others : List Body
+  pub at : Shown
+  pub as-one : whole ≡ fileOf (done ++ others)
+  pub until-there : first ≡ fileOf done
+  pub from-there : second ≡ fileOf ((0, at) ∷ others)
+  pub goes-on-at : LastShows at done
