@@ -1,11 +1,8 @@
 -- The rows of a lesson that was handed over are those of the lesson that was not, but for their labels and the row 0 that shows where it goes on.
 -- Assumes nothing.
-use Prim.Native.Nat.{ℕ, _+_, _≤_}
-use native.Mathlib.Omega.{arith}
-use mathlib.Core.Bool.{true}
+use Prim.Native.Nat.{ℕ}
 use mathlib.Core.List.{List, [], _∷_, _++_, map}
-use mathlib.Core.Path.{_≡_, refl, sym, ap, subst, _∙_}
-use lib.ListN.{length, length-append}
+use mathlib.Core.Path.{_≡_, refl, sym, ap, _∙_}
 use Rattle.controller.specs.declared.State.{State}
 use Rattle.controller.specs.declared.Answer.{Answer}
 use Rattle.controller.specs.Start.{startedAt}
@@ -16,15 +13,11 @@ use Rattle.image.specs.Images.{loadOf}
 use Rattle.laws.specs.Reached.{Reached}
 use Rattle.laws.specs.HandedOver.{butForStamp, SameTimes}
 use Rattle.laws.proofs.Images.{goes-on-the-same}
-use Rattle.lines.specs.Rows.{rowsOf}
-use Rattle.reading.specs.declared.Reading.{Reading}
-use Rattle.reading.specs.Rows.{hasStarted, readFrom}
-use Rattle.reading.specs.Whole.{readTo}
 use Rattle.lesson.specs.Replay.{resumedOf}
 use Rattle.handing.specs.Handing.{savedOf}
-use Rattle.files.specs.Traces.{Body, AllBearable, InOneTrace, rowsFor, traceBearing, bodyOf, fileOf, bodiesTo}
+use Rattle.files.specs.Traces.{Body, Bears, bodyOf, fileOf, bodiesTo}
 use Rattle.files.specs.Cut.{LastShows, InTwoFiles}
-use Rattle.files.proofs.Traces.{left-of-trace, row-0-was-read, rows-of-trace, a-trace-in-form-is-answered}
+use Rattle.files.proofs.Traces.{what-it-bears-is-answered, left-of-it, row-0-was-read}
 use Rattle.files.proofs.HandedOver.{handed-over}
 
 -- ---- A lesson in two
@@ -40,15 +33,6 @@ last-shown : (a : Answer) (more : List Row) → LastShows (shownOf (after (a .st
 unfolding answers after
 last-shown a [] = refl
 last-shown a (r ∷ more) = last-shown (stepOf (a .state) (r .0) (r .1)) more
-
--- What a trace can bear it can bear in part.
-front-bears : (front rest : List Row) → AllBearable (front ++ rest) → AllBearable front
-front-bears [] rest bears = tt
-front-bears (r ∷ front) rest bears = (bears .0, front-bears front rest (bears .1))
-
-in-part : (front rest : List Row) → InOneTrace (front ++ rest) → InOneTrace front
-in-part front rest bears =
-    record { each = front-bears front rest (bears .each); labels = omega (arith, bears .labels, length-append front rest) }
 
 -- ---- What a row shows is not the stamp
 
@@ -67,42 +51,37 @@ same-bodies s stamp rows otherRows times =
 
 -- ---- Handed over
 
--- A trace is cut behind one of its rows, of which there is row 0 at least. The image of the first trace is saved and loaded at any stamp,
--- whatever the other laptop held before; the second trace has any row 0, and then the same samples at the same elapsed times.
+-- A lesson is cut behind one of its rows, of which there is row 0 at least. The image that the first input leaves is saved, and loaded at any
+-- stamp, whatever the other laptop held before; the second input bears any row 0, and then the same samples at the same elapsed times. Each
+-- input may be any bytes that bear these, and may end in a refusal.
 pub in-two-files : (s : State) → Reached s
-    → (first : Row) (more rest : List Row)
-    → InOneTrace ((first ∷ more) ++ rest)
-    → (before : State) (loading : ℕ) (again : Row) (otherRest : List Row)
-    → InOneTrace (again ∷ otherRest)
-    → (let left = after (startedAt (first .0) s) more in SameTimes left rest (startedAt (again .0) left) otherRest)
-    → InTwoFiles
-    (resumedOf s (traceBearing ((first ∷ more) ++ rest)))
-    (resumedOf s (traceBearing (first ∷ more)))
-    (resumedOf (loadOf before (savedOf s (traceBearing (first ∷ more))) loading .state) (traceBearing (again ∷ otherRest)))
+    → (start : Row) (more rest : List Row)
+    → (again : Row) (otherRest : List Row)
+    → (let left = after (startedAt (start .0) s) more in SameTimes left rest (startedAt (again .0) left) otherRest)
+    → (whole first second endOfWhole endOfFirst endOfSecond : List ℕ)
+    → Bears whole ((start ∷ more) ++ rest) endOfWhole
+    → Bears first (start ∷ more) endOfFirst
+    → Bears second (again ∷ otherRest) endOfSecond
+    → (before : State) (stamp : ℕ)
+    → InTwoFiles (resumedOf s whole) (resumedOf s first) (resumedOf (loadOf before (savedOf s first) stamp .state) second)
+    endOfWhole endOfFirst endOfSecond
 unfolding startedAt shownOf lightsOf
-in-two-files s reached first more rest bears before loading again otherRest othersBear times =
-    let start = startedAt (first .0) s in
-    let left = after start more in
-    let input = traceBearing (first ∷ more) in
-    let further = traceBearing (again ∷ otherRest) in
-    let part = in-part (first ∷ more) rest bears in
-    let rows = rows-of-trace (first ∷ more) in
-    let read : hasStarted (readTo (readFrom s) (rowsOf input) .phase) ≡ true =
-    ap (λ (l : List (List ℕ)). hasStarted (readTo (readFrom s) l .phase)) rows ∙ row-0-was-read s first more part in
-    let leaves : readTo (readFrom s) (rowsOf input) .state ≡ left =
-    ap (λ (l : List (List ℕ)). readTo (readFrom s) l .state) rows ∙ left-of-trace s first more part in
+in-two-files s reached start more rest again otherRest times whole first second w f e wholeBears firstBears secondBears before stamp =
+    let from = startedAt (start .0) s in
+    let left = after from more in
+    let further : List Body → List ℕ = λ bs. fileOf ((0, shownOf left) ∷ bs) ++ e in
     record {
-      done = bodiesTo s (first ∷ more);
+      done = bodiesTo s (start ∷ more);
       others = map bodyOf (answers left rest);
       at = shownOf left;
       as-one =
-          a-trace-in-form-is-answered s ((first ∷ more) ++ rest) bears
-          ∙ ap (λ (bs : List Body). fileOf ((0, shownOf start) ∷ bs)) (bodies-in-two start more rest);
-      until-there = a-trace-in-form-is-answered s (first ∷ more) part;
+          what-it-bears-is-answered s whole ((start ∷ more) ++ rest) w wholeBears
+          ∙ ap (λ (bs : List Body). fileOf ((0, shownOf from) ∷ bs) ++ w) (bodies-in-two from more rest);
+      until-there = what-it-bears-is-answered s first (start ∷ more) f firstBears;
       from-there =
-          handed-over s reached input read before loading further
-          ∙ ap (λ (t : State). resumedOf t further) leaves
-          ∙ a-trace-in-form-is-answered left (again ∷ otherRest) othersBear
-          ∙ ap (λ (bs : List Body). fileOf ((0, shownOf left) ∷ bs)) (same-bodies left (again .0) rest otherRest times);
-      goes-on-at = last-shown (record { refusal = 0; state = start }) more;
+          handed-over s reached first (row-0-was-read s first start more f firstBears) before stamp second
+          ∙ ap (λ (t : State). resumedOf t second) (left-of-it s first start more f firstBears)
+          ∙ what-it-bears-is-answered left second (again ∷ otherRest) e secondBears
+          ∙ ap further (same-bodies left (again .0) rest otherRest times);
+      goes-on-at = last-shown (record { refusal = 0; state = from }) more;
     }

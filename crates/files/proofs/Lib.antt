@@ -7,4 +7,5 @@ pub mod Laws
 pub mod Between
 pub mod Cutting
 pub mod Traces
+pub mod Accounts
 pub mod Cut
