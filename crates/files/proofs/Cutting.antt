@@ -40,7 +40,7 @@ unfolding rowsOf
 one-byte b [] rest h = rw h
 one-byte b (c ∷ row) rest h = rw h
 
-cut-row : (row rest : List ℕ) → NoCr row → rowsOf (row ++ crlf ++ rest) ≡ row ∷ rowsOf rest
+pub cut-row : (row rest : List ℕ) → NoCr row → rowsOf (row ++ crlf ++ rest) ≡ row ∷ rowsOf rest
 unfolding rowsOf before
 cut-row [] rest h = refl
 cut-row (b ∷ row) rest h = one-byte b row rest (h .0) ∙ ap (before (b ∷ [])) (cut-row row rest (h .1))

@@ -9,3 +9,4 @@ pub mod Cutting
 pub mod Traces
 pub mod Accounts
 pub mod Cut
+pub mod Tables

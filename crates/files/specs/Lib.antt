@@ -4,3 +4,4 @@ pub mod Shown
 pub mod Between
 pub mod Traces
 pub mod Cut
+pub mod Tables
