@@ -3,10 +3,9 @@
 use Prim.Native.Nat.{ℕ, suc, _+_, _≤_}
 use native.Mathlib.Omega.{arith}
 use native.Mathlib.Nat.{add-zero, zero-add}
-use mathlib.Core.Bool.{true, false}
 use mathlib.Core.List.{List, [], _∷_, _++_, append-nil}
-use mathlib.Core.Logic.{_⊎_, inl, inr}
-use mathlib.Core.Path.{_≡_, refl, sym, ap, subst, _∙_}
+use mathlib.Core.Logic.{inl, inr}
+use mathlib.Core.Path.{_≡_, refl, ap, subst, _∙_}
 use lib.Dec.{ltb}
 use lib.ListN.{length}
 use Rattle.common.specs.Answers.{Answer as Reads, gives, refuses}
@@ -26,7 +25,7 @@ use Rattle.reading.specs.Runs.{inRows}
 use Rattle.reading.proofs.Ends.{after-refusal}
 use Rattle.lesson.specs.Replay.{writtenOf, resumedOf}
 use Rattle.lesson.proofs.Law.{nothing-written}
-use Rattle.files.specs.Traces.{AllBearable, rowsBearing, rowsFor, dueBehind, Ending, Bears, Account}
+use Rattle.files.specs.Traces.{AllBearable, rowsBearing, dueBehind, Ending, Account}
 use Rattle.files.specs.Traces.Ending.{at-end, at-refusal}
 use Rattle.files.specs.Traces.Account.{no-header, has-header}
 use Rattle.files.proofs.EachRow.{readAt}
@@ -78,8 +77,8 @@ rows-bear : (n : ℕ) (rows : List (List ℕ)) → n ≤ greatest + 1 → Bearin
 unfolding rowsBearing
 rows-bear n [] fits = record { samples = []; each = tt; labels = omega arith; others = []; are = refl; ending = []; ends = at-end }
 rows-bear n (row ∷ rows) fits =
-    row-bears n row rows fits (λ more. rows-bear (n + 1) rows more) (readRow row (dueBehind n) noSample .0) (readRow row (dueBehind n) noSample .1)
-    refl
+    let read = readRow row (dueBehind n) noSample in
+    row-bears n row rows fits (λ more. rows-bear (n + 1) rows more) (read .0) (read .1) refl
 
 -- ---- From the header on
 

@@ -1,4 +1,5 @@
--- Demand 3 of the rows of a file: the rows from one that accepts its sample on are a run of the controller over the samples that were accepted.
+-- Demand 3 of the rows of a file: the rows from one that accepts its sample on are a run of the controller over the samples that were
+-- accepted.
 -- Assumes nothing.
 use Prim.Native.Nat.{ℕ, _+_, _≤_}
 use native.Mathlib.Omega.{arith}
@@ -16,7 +17,7 @@ use Rattle.controller.specs.declared.State.{State}
 use Rattle.controller.specs.declared.Shown.{Shown}
 use Rattle.controller.specs.declared.Answer.{Answer}
 use Rattle.controller.specs.Lamps.{lightsOf, shownOf}
-use Rattle.controller.specs.Stages.{elapsedOf, accepted}
+use Rattle.controller.specs.Stages.{elapsedOf}
 use Rattle.controller.specs.Steps.{limit, stepOf}
 use Rattle.controller.specs.Samples.{Row, after}
 use Rattle.controller.specs.Votes.{handle, sensor}
@@ -41,7 +42,6 @@ use Rattle.files.specs.Between.{
   elapsedAt,
   elapsedOver,
   stateAfter,
-  looksSettled,
   LooksSettledWithin,
   LooksUnsettledEarly,
   OfEveryFile,
@@ -112,7 +112,11 @@ module _ (down : Bool) (t : Told) (rows : List Told) (samples : List Row) (run :
   run-still e =
       let moved : Run down (t .before) rows samples = subst (λ (s : State). Run down s rows samples) e run in
       let none : elapsedAt t ≡ 0 = rw e (omega arith) in
-      record { stays = moved .stays; time = omega (arith, none, moved .time); same = moved .same ∙ ap (λ (s : State). stateAfter s rows) (sym e) }
+      record {
+        stays = moved .stays;
+        time = omega (arith, none, moved .time);
+        same = moved .same ∙ ap (λ (s : State). stateAfter s rows) (sym e);
+      }
 
   run-takes : (r : Row) → isTaken (t .before) r ≡ true → t .after ≡ next (t .before) r → HandleIs down t
       → Run down (t .before) (t ∷ rows) (r ∷ samples)
@@ -120,8 +124,10 @@ module _ (down : Bool) (t : Told) (rows : List Told) (samples : List Row) (run :
   run-takes r taken e handle-is =
       let s = t .before in
       let moved : Run down (next s r) rows samples = subst (λ (x : State). Run down x rows samples) e run in
-      let handle-says : T (handleSays down s r) = says (sensor handle (next s r .voters)) down (ap (λ (x : State). sensor handle (x .voters)) (sym e) ∙ handle-is) in
-      let here : elapsedOf (s .stamp) (r .0) ≡ elapsedAt t = ap (elapsedOf (s .stamp)) (sym (stamp-of s r taken) ∙ ap (λ (x : State). x .stamp) (sym e)) in
+      let handle-says : T (handleSays down s r) =
+      says (sensor handle (next s r .voters)) down (ap (λ (x : State). sensor handle (x .voters)) (sym e) ∙ handle-is) in
+      let here : elapsedOf (s .stamp) (r .0) ≡ elapsedAt t =
+      ap (elapsedOf (s .stamp)) (sym (stamp-of s r taken) ∙ ap (λ (x : State). x .stamp) (sym e)) in
       record {
         stays = both-hold (isTaken s r && handleSays down s r) (held down (next s r) samples)
             (both-hold (isTaken s r) (handleSays down s r) (is-true (isTaken s r) taken) handle-says) (moved .stays);
@@ -158,7 +164,9 @@ behind-front [] ts line s links each = (line, s, links, each)
 behind-front (t ∷ front) ts line s links each = behind-front front ts (line + 1) (t .after) (links .2) (each .1)
 
 -- The samples that were accepted.
-samples-of : (down : Bool) (rows back : List Told) (line : ℕ) (s : State) → 3 ≤ line → Linked line s (rows ++ back) → Each Fine (rows ++ back)
+samples-of : (down : Bool) (rows back : List Told) (line : ℕ) (s : State) → 3 ≤ line
+    → Linked line s (rows ++ back)
+    → Each Fine (rows ++ back)
     → Each (HandleIs down) rows
     → (samples : List Row) × Run down s rows samples
 unfolding held elapsedIn elapsedOver stateAfter after
@@ -167,9 +175,15 @@ samples-of down (t ∷ rows) back line s late links each is =
     by (turn t (each .0 .number) (each .0 .right) (omega (arith, links .0)))
     (samples-of down rows back (line + 1) (t .after) (omega arith) (links .2) (each .1) (is .1)) where
       by : Turn t → (samples : List Row) × Run down (t .after) rows samples → (samples : List Row) × Run down s (t ∷ rows) samples
-      by (still e) others = (others .0, subst (λ (x : State). Run down x (t ∷ rows) (others .0)) (links .1) (run-still down t rows (others .0) (others .1) e))
-      by (takes r taken e) others =
-          (r ∷ others .0, subst (λ (x : State). Run down x (t ∷ rows) (r ∷ others .0)) (links .1) (run-takes down t rows (others .0) (others .1) r taken e (is .0)))
+      by (still e) others = (
+        others .0,
+        subst (λ (x : State). Run down x (t ∷ rows) (others .0)) (links .1) (run-still down t rows (others .0) (others .1) e),
+      )
+      by (takes r taken e) others = (
+        r ∷ others .0,
+        subst (λ (x : State). Run down x (t ∷ rows) (r ∷ others .0)) (links .1)
+            (run-takes down t rows (others .0) (others .1) r taken e (is .0)),
+      )
 
 -- The first row accepts its sample.
 module _ (first : Told) (accepts : Accepts first) where
@@ -177,9 +191,9 @@ module _ (first : Told) (accepts : Accepts first) where
   first-row right = subst (AnsweredBy first) (accepts .1) right
 
   first-line : Numbered first → 3 ≤ first .line
-  first-line number = let on = subst (NumberedBy (first .line)) (accepts .1) number in first-is-late (accepts .0) (first .line) on (accepts .2) where
-    first-is-late : (label line : ℕ) → line ≡ label + 2 → ¬ (label ≡ 0) → 3 ≤ line
-    first-is-late label line e other = either (eqb label 0) (λ t. absurd (other (eqb-true label 0 t))) (λ t. omega (arith, eqb-false label 0 t))
+  first-line number = late (accepts .0) (first .line) (subst (NumberedBy (first .line)) (accepts .1) number) (accepts .2) where
+    late : (label line : ℕ) → line ≡ label + 2 → ¬ (label ≡ 0) → 3 ≤ line
+    late label line e other = omega arith
 
   first-taken : (row : OwnRow first (accepts .0) 0) → isTaken (first .before) (row .stamp, row .sample) ≡ true
   unfolding isTaken
@@ -200,7 +214,8 @@ module _ (first : Told) (accepts : Accepts first) where
   said Says ofRuns row reached down rest samples is others =
       let r : Row = (row .stamp, row .sample) in
       let run = run-takes down first rest samples others r (first-taken row) (first-next row) is in
-      let time : elapsedSince (first .before) (r ∷ samples) ≡ elapsedOver rest = ap (λ (s : State). elapsedIn s samples) (sym (first-next row)) ∙ others .time in
+      let time : elapsedSince (first .before) (r ∷ samples) ≡ elapsedOver rest =
+      ap (λ (s : State). elapsedIn s samples) (sym (first-next row)) ∙ others .time in
       subst (λ (s : State). Says (elapsedOver rest) (aimOf down) (s .core)) (run .same)
       (subst (λ (n : ℕ). Says n (aimOf down) (after (first .before) (r ∷ samples) .core)) time
       (ofRuns (first .before) reached down r samples (run .stays)))
@@ -225,8 +240,8 @@ of-every-file Says Looks looks ofRuns state reached input front first rest back 
 
 -- ---- Demand 3
 
--- Once the accepted elapsed times since a row that accepts its sample add up to 24,796 ms, with the voted handle as it was there, a row shows
--- red, or doors CLOSED and gears where the handle asks.
+-- Once the accepted elapsed times since a row that accepts its sample add up to 24,796 ms, with the voted handle as it was there, a row
+-- shows red, or doors CLOSED and gears where the handle asks.
 pub demand-3-of-a-file : OfEveryFile (LooksSettledWithin bound)
 unfolding settled shownOf lightsOf
 demand-3-of-a-file = of-every-file (SettledWithin bound) (LooksSettledWithin bound) (λ elapsed aim s h. h) demand-3

@@ -1,4 +1,5 @@
--- The rows of a lesson that was handed over are those of the lesson that was not, but for their labels and the row 0 that shows where it goes on.
+-- The rows of a lesson that was handed over are those of the lesson that was not, but for their labels and the row 0 that shows where it
+-- goes on.
 -- Assumes nothing.
 use Prim.Native.Nat.{ℕ}
 use mathlib.Core.List.{List, [], _∷_, _++_, map}

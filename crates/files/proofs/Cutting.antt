@@ -7,7 +7,7 @@ use mathlib.Core.List.{List, [], _∷_, _++_}
 use mathlib.Core.Path.{_≡_, refl, sym, ap, subst, _∙_}
 use borrow.Author.Tests.{ne-eqb}
 use lib.Dec.{T, eqb}
-use Rattle.common.specs.Ascii.{cr, lf, crlf, comma, ended, joinedByCommas}
+use Rattle.common.specs.Ascii.{cr, crlf, comma, ended, joinedByCommas}
 use Rattle.lines.specs.Rows.{before, rowsOf}
 use Rattle.trace.proofs.Commas.{Over, AllOver}
 
@@ -35,7 +35,8 @@ tested (b ∷ bs) e = by (eqb b cr) refl e (tested bs) where
 
 -- ---- Cutting
 
-one-byte : (b : ℕ) (row rest : List ℕ) → eqb b cr ≡ false → rowsOf (b ∷ (row ++ crlf ++ rest)) ≡ before (b ∷ []) (rowsOf (row ++ crlf ++ rest))
+one-byte : (b : ℕ) (row rest : List ℕ) → eqb b cr ≡ false
+    → rowsOf (b ∷ (row ++ crlf ++ rest)) ≡ before (b ∷ []) (rowsOf (row ++ crlf ++ rest))
 unfolding rowsOf
 one-byte b [] rest h = rw h
 one-byte b (c ∷ row) rest h = rw h

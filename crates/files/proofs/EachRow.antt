@@ -1,5 +1,5 @@
--- What holds of each row of a file, from any controller and whatever the bytes of the input are: its number tells its place, its code is one of
--- document 01's, and what it bears is the controller's own answer.
+-- What holds of each row of a file, from any controller and whatever the bytes of the input are: its number tells its place, its code is one
+-- of document 01's, and what it bears is the controller's own answer.
 -- Assumes nothing.
 use Prim.Native.Nat.{ℕ, _+_, _≤_}
 use native.Mathlib.Omega.{arith}
@@ -21,8 +21,6 @@ use Rattle.trace.specs.Header.{headerText as traceHeader, sameText}
 use Rattle.trace.specs.Written.{InForm}
 use Rattle.trace.proofs.Laws.{what-is-taken-is-of-the-form}
 use Rattle.controller.specs.declared.State.{State}
-use Rattle.controller.specs.declared.Answer.{Answer}
-use Rattle.controller.specs.Start.{startedAt}
 use Rattle.controller.specs.Steps.{stepAt}
 use Rattle.reading.specs.declared.Phase.{Phase}
 use Rattle.reading.specs.declared.Phase.the-variants.{Header, Rows, Ended}
@@ -122,7 +120,9 @@ row-right : (line : ℕ) (row : List ℕ) (phase : Phase) (state : State) → On
 unfolding rowOf shownRow
 row-right line row Header state e =
     let reading = readAt Header state in
-    by-header (Goes line row reading) state row (ends-right line row reading 1 6 e (inr (inl refl))) (ends-right line row reading 1 5 e (inl refl))
+    by-header (Goes line row reading) state row
+    (ends-right line row reading 1 6 e (inr (inl refl)))
+    (ends-right line row reading 1 5 e (inl refl))
     (record { numbered = tt; coded = tt; answered = refl }, omega arith)
 row-right line row (Rows due) state e = by (behind due state row) where
   by : Behind due state row → Goes line row (readAt (Rows due) state) (traceRow due state row)

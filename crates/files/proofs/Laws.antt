@@ -1,9 +1,8 @@
--- Every row of a file shows a reached state, where the controller that it goes on from is reached: so each law of document 01 holds of each row
--- of a file, whatever the bytes of the input are.
+-- Every row of a file shows a reached state, where the controller that it goes on from is reached: so each law of document 01 holds of each
+-- row of a file, whatever the bytes of the input are.
 -- Assumes nothing.
 use Prim.Native.Nat.{ℕ, _+_}
 use mathlib.Core.List.{List, [], _∷_}
-use mathlib.Core.Path.{_≡_}
 use Rattle.lines.specs.Rows.{rowsOf}
 use Rattle.controller.specs.declared.State.{State}
 use Rattle.controller.specs.declared.Answer.{Answer}

@@ -9,8 +9,7 @@ use Rattle.lines.specs.Rows.{rowsOf}
 use Rattle.trace.specs.declared.Due.{Due}
 use Rattle.trace.specs.declared.Due.the-variants.{Label}
 use Rattle.controller.specs.declared.State.{State}
-use Rattle.reading.specs.declared.Phase.{Phase}
-use Rattle.reading.specs.declared.Phase.the-variants.{Header, Rows, Ended}
+use Rattle.reading.specs.declared.Phase.the-variants.{Rows, Ended}
 use Rattle.reading.specs.declared.Reading.{Reading}
 use Rattle.reading.specs.declared.Heard.{Heard}
 use Rattle.reading.specs.Rows.{endsAt, shownRow, traceRow, rowOf, endOf, readFrom}
@@ -26,7 +25,8 @@ abbrev from : ℕ → List ℕ → Reading → List (List ℕ) → Heard → Lis
 from line row reading rows heard = toldOf line row reading heard ∷ toldFrom (line + 1) (heard .reading) rows
 
 -- Behind a refusal.
-nothing-more : (line at refusal : ℕ) (state : State) (rows : List (List ℕ)) → Each Untold (toldFrom line (readAt (Ended at refusal) state) rows)
+nothing-more : (line at refusal : ℕ) (state : State) (rows : List (List ℕ))
+    → Each Untold (toldFrom line (readAt (Ended at refusal) state) rows)
 unfolding toldFrom rowOf endOf
 nothing-more line at refusal state [] = (refl, tt)
 nothing-more line at refusal state (row ∷ rows) = (refl, nothing-more (line + 1) at refusal state rows)

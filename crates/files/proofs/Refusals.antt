@@ -11,7 +11,6 @@ use lib.ListN.{length, getD}
 use Rattle.common.specs.Answers.{Answer as Reads, gives, refuses}
 use Rattle.common.specs.Decimal.{digit0}
 use Rattle.common.specs.Lists.{some}
-use Rattle.common.specs.Lowest.{lowest}
 use Rattle.trace.specs.declared.Due.{Due}
 use Rattle.trace.specs.declared.Due.the-variants.{Label, Nothing}
 use Rattle.trace.specs.Numbers.{isDigit, greatest, digitsFrom, numberOf, isBit, tripleOf}
@@ -104,7 +103,8 @@ unfolding some
 none-over [] h = refl
 none-over (b ∷ bits) h = rw (le-ltb 1 b (h .0)) (none-over bits (h .1))
 
-pub sample-refusals : (s : State) (stamp : ℕ) {row sample : List ℕ} {label : ℕ} → InForm row label stamp sample → ThreeFour (refusalOf s stamp sample)
+pub sample-refusals : (s : State) (stamp : ℕ) {row sample : List ℕ} {label : ℕ} → InForm row label stamp sample
+    → ThreeFour (refusalOf s stamp sample)
 unfolding refusalAt someOverOne
 sample-refusals s stamp {sample = sample} form =
     let elapsed = elapsedOf (s .stamp) stamp in

@@ -9,7 +9,6 @@ use borrow.Author.Tests.{leb-true}
 use lib.Dec.{T, leb}
 use lib.ListN.{replicate}
 use Rattle.common.specs.Ascii.{crlf, joinedByCommas}
-use Rattle.common.specs.Bits.{bit}
 use Rattle.common.specs.Decimal.{decimal, digit0}
 use Rattle.lines.specs.Rows.{before, rowsOf}
 use Rattle.trace.specs.Rows.{fieldsOf}

@@ -1,5 +1,5 @@
--- The file of any input is the controller's own answers to the samples that it bears, up to its end or to the refusal that ends it; for a trace in
--- form these are all.
+-- The file of any input is the controller's own answers to the samples that it bears, up to its end or to the refusal that ends it; for a
+-- trace in form these are all.
 -- Assumes nothing.
 use Prim.Native.Nat.{ℕ, suc, _+_, _≤_, _<_}
 use native.Mathlib.Omega.{arith}
@@ -17,7 +17,7 @@ use Rattle.lines.specs.Rows.{rowsOf}
 use Rattle.lines.proofs.Steps.{either}
 use Rattle.names.specs.Words.{sensorNames}
 use Rattle.trace.specs.declared.Due.{Due}
-use Rattle.trace.specs.declared.Due.the-variants.{Label, Nothing}
+use Rattle.trace.specs.declared.Due.the-variants.{Label}
 use Rattle.trace.specs.Numbers.{greatest}
 use Rattle.trace.specs.Rows.{readRow}
 use Rattle.trace.specs.Header.{headerNames, headerText as traceHeader}
@@ -55,7 +55,6 @@ use Rattle.files.specs.Traces.{
   bodyOf,
   labelled,
   fileOf,
-  answersTo,
   bodiesTo,
 }
 use Rattle.files.specs.Traces.Ending.{at-end, at-refusal}

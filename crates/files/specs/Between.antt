@@ -1,5 +1,5 @@
--- Demand 3 of the rows of a file, from one row that accepts its sample to a later row, refused ones among them. Time is accepted time: a state
--- bears the stamp of the last accepted sample, so nothing elapses at a row that is refused.
+-- Demand 3 of the rows of a file, from one row that accepts its sample to a later row, refused ones among them. Time is accepted time: a
+-- state bears the stamp of the last accepted sample, so nothing elapses at a row that is refused.
 -- Assumes nothing.
 use Prim.Native.Nat.{ℕ, _+_, _≤_}
 use mathlib.Core.Bool.{Bool, not, _&&_, _||_}

@@ -1,5 +1,5 @@
--- Request K3, "Hand a lesson to another laptop": the file of a lesson that was not handed over, and the two files of the same lesson, handed
--- over behind one of its rows.
+-- Request K3, "Hand a lesson to another laptop": the file of a lesson that was not handed over, and the two files of the same lesson,
+-- handed over behind one of its rows.
 -- Assumes nothing.
 use Prim.Native.Nat.{ℕ}
 use mathlib.Core.List.{List, [], _∷_, _++_}

@@ -12,7 +12,10 @@ pub record Lawful (x : Shown) : Type 0 where
   pub opposites : (T (x .opens) → T (x .closes) → ⊥) × (T (x .retracts) → T (x .extends) → ⊥)
   -- None of the four without general_EV.
   pub with-general :
-      (T (x .closes) → T (x .general)) × (T (x .opens) → T (x .general)) × (T (x .retracts) → T (x .general)) × (T (x .extends) → T (x .general))
+      (T (x .closes) → T (x .general)) ×
+      (T (x .opens) → T (x .general)) ×
+      (T (x .retracts) → T (x .general)) ×
+      (T (x .extends) → T (x .general))
   -- Gear orders only with doors OPEN.
   pub doors-open : (T (x .retracts) → T (areOpen (x .doors))) × (T (x .extends) → T (areOpen (x .doors)))
   -- Door orders only with gears at rest.

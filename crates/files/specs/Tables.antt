@@ -16,7 +16,8 @@ use Rattle.files.specs.Told.{Told}
 abbrev pub tableIn : List ℕ → List (List (List ℕ))
 tableIn file = map fieldsOf (rowsOf file)
 
--- The fields that are told of a row: label, 0 or the refusal, and what the state shows; the line, the refusal and ten empty fields; or no row.
+-- The fields that are told of a row: label, 0 or the refusal, and what the state shows; the line, the refusal and ten empty fields; or no
+-- row.
 abbrev pub fieldsBy : Came → State → List (List (List ℕ))
 fieldsBy Nothing state = []
 fieldsBy (Answered label code) state = (decimal label ∷ decimal code ∷ shownFields (shownOf state)) ∷ []

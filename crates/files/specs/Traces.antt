@@ -61,8 +61,8 @@ traceBearing samples = traceOf (rowsBearing 0 samples)
 abbrev pub dueBehind : ℕ → Due
 dueBehind n = cond (leb n greatest) (Label n) NoLabel
 
--- What follows so many rows, and what is written of it: nothing, or a row that is refused, and whatever is behind it; that row is on the line
--- behind the header and these rows.
+-- What follows so many rows, and what is written of it: nothing, or a row that is refused, and whatever is behind it; that row is on the
+-- line behind the header and these rows.
 pub data Ending (n : ℕ) : List (List ℕ) → List ℕ → Type 0 where
   at-end : Ending n [] []
   at-refusal : (row : List ℕ) (rows : List (List ℕ)) (refusal : ℕ)

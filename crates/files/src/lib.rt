@@ -1,4 +1,8 @@
-// Theorems over whole files, where the laws over every reached state and the runs from file to file meet; no code. What is claimed of the
-// rows of a file is specs/; the theorems are proofs/.
-// proofs/Told.antt: what is written are the texts of what each row of the input came to; EachRow, PerRow, Laws: what holds of each of them.
-// proofs/HandedOver.antt: what is saved of a trace is the image of its last state, it is taken, and the lesson goes on from it.
+// Theorems over whole files, where the laws over every reached state and the runs from file to file meet; no code. What is claimed is
+// written with specs/; the theorems are proofs/. From any controller, whatever the bytes of the input are:
+// Told, Tables: a file is the output header and what is told of each row of the input. EachRow, PerRow: the number of a row is its place, its
+// code is one of document 01's, it bears the controller's own answer, and there is one for each row. Laws: each law of document 01 holds of
+// each row. Between: demand 3 between two rows. Traces, Accounts: the file is the controller's own answers to the samples that the input
+// bears, up to its end or to the refusal that ends it.
+// HandedOver: what is saved of a trace is the image of its last state, it is taken, and the lesson goes on from it. Cut: the rows of a lesson
+// that was handed over are those of the lesson that was not.
