@@ -1,0 +1,106 @@
+// The items and the rules of an image by name (specs/Parts.antt), each put at the front of a text if there is room for it.
+ghost use Prim.Native.Nat.{_<_};
+ghost use lib.ListN.{length};
+ghost use Rattle.names.specs.Words.{entry, sensorNames, orderNames};
+ghost use Rattle.texts.specs.Puts.{PutIfRoom};
+ghost use Rattle.plain.specs.Parts.{sensorItems, orderItems, restNames, itemNames, onRule, ruleWords};
+
+// The place of the first order's items: before them stand the last stamp and two items for each sensor.
+const FIRST_ORDER: usize = 1 + 2 * names::SENSORS;
+
+// The place of the items behind those of the orders, of which each has two.
+const REST: usize = FIRST_ORDER + 2 * names::ORDERS;
+
+// Puts the name of item k.
+pub(crate) fn put_name(text: &mut [u8], k: usize) -> usize
+    ensures { λ r. ⌜ PutIfRoom (now (text .entry)) 0 (entry itemNames k) (now (text .exit)) r ⌝ }
+{
+    if k == 0 {
+        return texts::put(text, 0, b"last stamp");
+    }
+    if k < FIRST_ORDER {
+        return put_of_sensor(text, k - 1);
+    }
+    if k < REST {
+        return put_of_order(text, k - FIRST_ORDER);
+    }
+    put_rest(text, k - REST)
+}
+
+// Puts rule k in words.
+pub(crate) fn put_words(text: &mut [u8], k: usize) -> usize
+    ensures { λ r. ⌜ PutIfRoom (now (text .entry)) 0 (entry ruleWords k) (now (text .exit)) r ⌝ }
+{
+    if k == 0 {
+        return texts::put(text, 0, b"moving gears have doors OPEN");
+    }
+    if k < names::ORDERS {
+        return put_on_rule(text, k);
+    }
+    if k == 5 {
+        return texts::put(
+            text,
+            0,
+            b"doors not CLOSED without a cause has general_EV on",
+        );
+    }
+    if k == 6 {
+        return texts::put(text, 0, b"an invalid sensor has a cause");
+    }
+    0
+}
+
+// Puts the name of item j of those of the sensors.
+fn put_of_sensor(text: &mut [u8], j: usize) -> usize
+    requires { ⌜ j < length sensorItems ⌝ }
+    ensures { λ r. ⌜ PutIfRoom (now (text .entry)) 0 (entry sensorItems j) (now (text .exit)) r ⌝ }
+{
+    let named = names::put_sensor(text, 0, j / 2);
+    if j % 2 == 0 {
+        return texts::put(text, named, b": voter");
+    }
+    texts::put(text, named, b": held value")
+}
+
+// Puts the name of item j of those of the orders.
+fn put_of_order(text: &mut [u8], j: usize) -> usize
+    requires { ⌜ j < length orderItems ⌝ }
+    ensures { λ r. ⌜ PutIfRoom (now (text .entry)) 0 (entry orderItems j) (now (text .exit)) r ⌝ }
+{
+    let named = names::put_order(text, 0, j / 2);
+    if j % 2 == 0 {
+        return texts::put(text, named, b": on");
+    }
+    texts::put(text, named, b": age")
+}
+
+// Puts the name of item j of those behind.
+fn put_rest(text: &mut [u8], j: usize) -> usize
+    ensures { λ r. ⌜ PutIfRoom (now (text .entry)) 0 (entry restNames j) (now (text .exit)) r ⌝ }
+{
+    if j == 0 {
+        return texts::put(text, 0, b"handle age");
+    }
+    if j == 1 {
+        return texts::put(text, 0, b"doors");
+    }
+    if j == 2 {
+        return texts::put(text, 0, b"gears");
+    }
+    if j == 3 {
+        return texts::put(text, 0, b"cause");
+    }
+    0
+}
+
+// Puts the rule that one of the four orders has; k is its place among the names of the orders.
+fn put_on_rule(text: &mut [u8], k: usize) -> usize
+    ensures { λ r. ⌜ PutIfRoom (now (text .entry)) 0 (onRule (entry orderNames k)) (now (text .exit)) r ⌝ }
+{
+    let named = names::put_order(text, 0, k);
+    texts::put(
+        text,
+        named,
+        b" is on only where it is wanted and has general_EV on",
+    )
+}
