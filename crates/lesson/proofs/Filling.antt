@@ -11,7 +11,7 @@ use lib.Seq.{take-all}
 use Rattle.controller.specs.declared.State.{State}
 use Rattle.reading.specs.declared.Came.the-variants.{Nothing}
 use Rattle.reading.specs.declared.Run.{Run}
-use Rattle.reading.specs.Runs.{Answer, takeBy}
+use Rattle.reading.specs.Runs.{Answer}
 use Rattle.reading.specs.Fills.{untouched, goesOn, fillBy}
 use Rattle.reading.proofs.Fills as fills
 use Rattle.lesson.specs.declared.Took.{Took}

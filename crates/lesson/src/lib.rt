@@ -1,7 +1,8 @@
 // A whole run of the program `replay`: what is written of each row of a trace. The rule is specs/Replay.antt, from all bytes of the input to
 // all bytes of the output (document 01, "The trace and its program"). The trace is taken in by parts, one row a call, by the crate
 // `reading`: here is only what is written of a row. proofs/Law.antt says that however the input is cut, what is written in all is the output
-// of the whole. Request K3: a run may also go on from a controller that was handed over, and the controller that it leaves may be saved.
+// of the whole. `fill` takes in a whole part, as a program has it from one read, into one output buffer, for one write. Request K3: a run may
+// also go on from a controller that was handed over, and the controller that it leaves may be saved.
 ghost use mathlib.Core.Path.{_≡_};
 ghost use Prim.Native.Nat.{_-_, _≤_};
 ghost use mathlib.Core.Bool.{_&&_, not};
@@ -106,7 +107,7 @@ fn turn(took: Took, part: &[u8], line: &mut [u8], out: &mut [u8]) -> Took
     }
 }
 
-// An output buffer that has no room.
+// An output buffer that has no room, or a line buffer that is not 512 bytes.
 fn refused(run: Run) -> Took
     ensures { λ r. ⌜ r ≡ record { run = run; used = 0; written = 0; refusal = 8 } ⌝ }
 {

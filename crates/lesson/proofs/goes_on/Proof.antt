@@ -1,7 +1,5 @@
 -- `lesson::goes_on` meets its contract: the phase is the run's.
 -- Assumes nothing.
-use mathlib.Core.Bool.{Bool, not, _&&_}
-use mathlib.Core.Path.{ap, _∙_}
 use borrow.Author.Needs.{needs}
 use Rattle.lesson.proofs.goes_on.Statement.{statement}
 use Rattle.lesson.proofs.goes_on.Tie as tie
