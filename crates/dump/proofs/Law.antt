@@ -3,7 +3,7 @@
 -- Assumes nothing.
 use Prim.Native.Nat.{ℕ, _+_, _^_, _<_}
 use native.Mathlib.Omega.{arith}
-use mathlib.Core.Bool.{Bool, true, false, _||_}
+use mathlib.Core.Bool.{Bool, true, false, cond, _||_}
 use mathlib.Core.List.{List, [], _∷_, _++_}
 use mathlib.Core.Path.{_≡_, refl, ap}
 use borrow.Author.Tests.{eqb-false, leb-false}
@@ -12,27 +12,42 @@ use lib.ListN.{length}
 use lib.Seq.{take-append-seam}
 use Rattle.dump.specs.declared.Dump.{Dump}
 use Rattle.dump.specs.Wires.{wires}
-use Rattle.dump.specs.Dumps.{Moment, RisesFrom, Rising, headText, momentText, laterText, dumpOf}
-use Rattle.dump.specs.Writes.{noTime, placed, startsWith, startOf, nextOf}
+use Rattle.dump.specs.Dumps.{RisesFrom, Rising, headText, laterText, dumpOf}
+use Rattle.dump.specs.Writes.{refused, inFront, placed, startsWith, startOf, textAfter, noTime, nextOf}
 use Rattle.dump.specs.Runs.{Call, AllWires, wrote, writtenInAll, taken}
 
--- The moment of a call, and its text.
-abbrev momentOf : Dump → Call → Moment
-momentOf dump call = record { time = dump .time + call .elapsed; values = call .values }
-
+-- The text of a call.
 abbrev textOf : Dump → Call → List ℕ
-textOf dump call = momentText (dump .values) (momentOf dump call)
+textOf dump call = textAfter dump (call .elapsed) (call .values)
+
+-- ---- What is refused
+
+-- 8 exactly if the buffer is shorter than what would be written; then 9 exactly if there is no such time.
+pub eight-then-nine : (dump : Dump) (elapsed : ℕ) (values : List Bool) (buffer : List ℕ)
+    → nextOf dump elapsed values buffer .0 .refusal
+    ≡ cond (ltb (length buffer) (length (textAfter dump elapsed values))) 8 (cond (noTime dump elapsed) 9 0)
+unfolding nextOf
+eight-then-nine dump elapsed values buffer =
+    by-tests (ltb (length buffer) (length (textAfter dump elapsed values))) (noTime dump elapsed) where
+      by-tests : (short late : Bool)
+          → cond short (refused 8 dump, buffer)
+          (cond late (refused 9 dump, buffer)
+          (inFront (record { time = dump .time + elapsed; values = values }) (textAfter dump elapsed values) buffer)) .0 .refusal
+          ≡ cond short 8 (cond late 9 0)
+      by-tests true late = refl
+      by-tests false true = refl
+      by-tests false false = refl
 
 -- ---- What is written
 
 module _ (dump : Dump) (call : Call) (calls : List Call) where
-  -- By whether there is such a time, and whether there is room.
+  -- By whether there is room, and such a time.
   by-tests : (late short : Bool) → noTime dump (call .elapsed) ≡ late → ltb (length (call .out)) (length (textOf dump call)) ≡ short
       → ((d : Dump) → writtenInAll d calls ≡ laterText (d .values) (taken d calls))
       → writtenInAll dump (call ∷ calls) ≡ laterText (dump .values) (taken dump (call ∷ calls))
-  unfolding writtenInAll taken nextOf placed laterText
-  by-tests true short e f on = rw e (on dump)
-  by-tests false true e f on = rw (e, f) (on dump)
+  unfolding writtenInAll taken nextOf laterText
+  by-tests late true e f on = rw f (on dump)
+  by-tests true false e f on = rw (f, e) (on dump)
   by-tests false false e f on =
       rw (e, f, take-append-seam (textOf dump call) _)
       (ap (λ (l : List ℕ). textOf dump call ++ l) (on (record { time = dump .time + call .elapsed; values = call .values })))
@@ -78,9 +93,9 @@ module _ (dump : Dump) (call : Call) (calls : List Call) (wide : length (call .v
   rises-by : (late short : Bool) → noTime dump (call .elapsed) ≡ late → ltb (length (call .out)) (length (textOf dump call)) ≡ short
       → ((d : Dump) → RisesFrom (d .time) (taken d calls))
       → RisesFrom (dump .time) (taken dump (call ∷ calls))
-  unfolding taken nextOf placed
-  rises-by true short e f on = rw e (on dump)
-  rises-by false true e f on = rw (e, f) (on dump)
+  unfolding taken nextOf
+  rises-by late true e f on = rw f (on dump)
+  rises-by true false e f on = rw (f, e) (on dump)
   rises-by false false e f on = rw (e, f) (in-time dump call e .0, in-time dump call e .1, wide, on (record { time = dump .time + call .elapsed; values = call .values }))
 
 -- The times of the moments taken rise, and stay below 2 ^ 64.

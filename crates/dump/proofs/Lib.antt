@@ -1,3 +1,4 @@
+pub mod Late
 pub mod Law
 pub mod Lines
 pub mod Once

@@ -10,7 +10,7 @@ use Rattle.dump.specs.declared.Dump.{Dump}
 use Rattle.dump.specs.declared.Wrote.{Wrote}
 use Rattle.dump.specs.Wires.{wires}
 use Rattle.dump.specs.Dumps.{Moment}
-use Rattle.dump.specs.Writes.{nextOf}
+use Rattle.dump.specs.Writes.{momentAfter, nextOf}
 
 -- A call of `next`: so many ms later, these values, and the buffer that is lent.
 pub record Call : Type 0 where
@@ -41,5 +41,5 @@ unfoldable pub taken : Dump → List Call → List Moment
 taken dump [] = []
 taken dump (call ∷ calls) =
     cond (eqb (answer dump call .0 .refusal) 0)
-    (record { time = dump .time + call .elapsed; values = call .values } ∷ taken (answer dump call .0 .dump) calls)
+    (momentAfter dump (call .elapsed) (call .values) ∷ taken (answer dump call .0 .dump) calls)
     (taken (answer dump call .0 .dump) calls)

@@ -4,6 +4,8 @@
 // proofs/Law.antt that what is written in all is the dump of the whole list.
 ghost use mathlib.Core.Path.{_≡_};
 ghost use Prim.Native.Nat.{_+_, _*_, _≤_, _<_};
+ghost use mathlib.Core.Bool.{cond};
+ghost use lib.Dec.{ltb};
 ghost use lib.ListN.{length, take};
 ghost use Rattle.texts.specs.Puts.{Put, putOf};
 ghost use Rattle.names.specs.Words.{entry};
@@ -85,15 +87,15 @@ impl Dump {
         hand_over(dump, dump, &text[..end], out)
     }
 
-    // So many ms later, with these values: writes what changes.
+    // So many ms later, with these values: writes what changes. 8 for room, then 9 where no time passed or the time would reach 2^64.
     pub fn next(self, elapsed: u64, values: [bool; WIRES], out: &mut [u8]) -> Wrote
         ensures { λ r. ⌜ (r, now (out .exit)) ≡ nextOf self elapsed values (now (out .entry)) ⌝ }
     {
         if elapsed == 0 {
-            return self.refused(9);
+            return self.unwritten(self.time, values, out.len());
         }
         if u64::MAX - self.time < elapsed {
-            return self.refused(9);
+            return self.unwritten(u64::MAX, values, out.len());
         }
         let time = self.time + elapsed;
         let after = Dump { time, values };
@@ -101,6 +103,19 @@ impl Dump {
         let mut text = [0u8; MOMENT_ROOM];
         let end = put_moment(&mut text, time, olds, values);
         hand_over(self, after, &text[..end], out)
+    }
+
+    // A moment that there is not, with what would be written of it at a time that has as many digits: 8 where the buffer has no room
+    // for that, and else 9.
+    fn unwritten(self, time: u64, values: [bool; WIRES], bytes: usize) -> Wrote
+        ensures { λ r. ⌜ r ≡ refused (cond (ltb bytes (length (momentText (self .values) (record { time = time; values = values })))) 8 9) self ⌝ }
+    {
+        let olds = self.values;
+        let mut text = [0u8; MOMENT_ROOM];
+        if bytes < put_moment(&mut text, time, olds, values) {
+            return self.refused(8);
+        }
+        self.refused(9)
     }
 
     // A refusal leaves the dump as it was.

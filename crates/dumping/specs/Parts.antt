@@ -16,8 +16,8 @@ use Rattle.reading.specs.Runs.{Teller, inRows, Answer, takeBy, finishBy, inAll}
 use Rattle.reading.specs.Fills.{turnFrom, fillBy}
 use Rattle.dump.specs.declared.Dump.{Dump}
 use Rattle.dump.specs.Wires.{wires}
-use Rattle.dump.specs.Dumps.{headText, headLength, momentText}
-use Rattle.dump.specs.Writes.{startsWith, noTime}
+use Rattle.dump.specs.Dumps.{headText, headLength}
+use Rattle.dump.specs.Writes.{startsWith, textAfter, noTime}
 use Rattle.dumping.specs.declared.Waves.{Waves}
 use Rattle.dumping.specs.declared.Told.{Told}
 use Rattle.dumping.specs.declared.Took.{Took}
@@ -32,10 +32,8 @@ Given = Dump × List ℕ
 -- A moment so many ms later. (No trace reaches 2 ^ 64: proofs/Law.antt. There the writer would refuse, and nothing is written.)
 unfoldable pub later : Dump → ℕ → List Bool → Given
 later dump elapsed values =
-    cond (noTime dump elapsed) (dump, []) (
-      record { time = dump .time + elapsed; values = values },
-      momentText (dump .values) (record { time = dump .time + elapsed; values = values }),
-    )
+    cond (noTime dump elapsed) (dump, [])
+    (record { time = dump .time + elapsed; values = values }, textAfter dump elapsed values)
 
 -- Row 0 starts the dump with its head; an accepted row is a moment, so long after the stamp before it; of any other row nothing is written.
 abbrev pub givenBy : Came → Dump → ℕ → State → Given
