@@ -13,7 +13,6 @@ use Rattle.sequence.specs.Places.{movingHaveOpen}
 use Rattle.table.proofs.Entries.{asked-at-number, table-tells}
 use Rattle.controller.specs.declared.State.{State}
 use Rattle.controller.specs.Stages.{anomaly, accepted}
-use Rattle.controller.specs.Steps.{stepOf}
 use Rattle.laws.specs.Laws.{Always}
 use Rattle.laws.specs.Wall.{askedBy, TheTableRuns, AsksWhatCanBeAsked, canBeAskedInAll}
 use Rattle.laws.proofs.Stages.{stages, coreStages}
