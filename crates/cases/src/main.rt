@@ -7,7 +7,7 @@ mod files;
 mod images;
 mod parts;
 mod rows;
-mod sheets;
+mod values;
 mod walls;
 mod waves;
 
@@ -88,8 +88,8 @@ fn case(letter: u8, name: &[u8]) -> bool {
     match letter {
         b'r' => rows::fresh(name),
         b'd' => waves::case(name),
-        b'v' => sheets::case(name, 0),
-        b'b' => sheets::case(name, 9),
+        b'v' => values::case(name, 0),
+        b'b' => values::case(name, 9),
         b'i' => rows::saved(name),
         b'o' => rows::onward(name),
         b'w' => images::case(name),

@@ -1,5 +1,5 @@
+pub mod Calls
 pub mod Exact
-pub mod Fields
 pub mod FixedTexts
 pub mod Lines
 pub mod Once

@@ -12,10 +12,6 @@ use Rattle.readback.proofs.Reader.take.Kinds as take-kinds
 use Rattle.readback.proofs.Reader.take.Reads as take-reads
 use Rattle.readback.proofs.Reader.finish.Kinds as finish-kinds
 use Rattle.readback.proofs.Reader.finish.Reads as finish-reads
-use Rattle.readback.proofs.sheets.put_header.Kinds as header-kinds
-use Rattle.readback.proofs.sheets.put_header.Reads as header-reads
-use Rattle.readback.proofs.sheets.put_row.Kinds as row-kinds
-use Rattle.readback.proofs.sheets.put_row.Reads as row-reads
 
 pub new-once : OneAnswer 0 new-kinds.ps new-kinds.r new-reads.Post
 new-once κs a x y s t p q = p ∙ sym q
@@ -27,10 +23,3 @@ take-once κs a x y s t p q = both (p ∙ sym q)
 -- And as `finish` leaves it.
 pub finish-once : OneAnswerAnd 1 finish-kinds.ps finish-kinds.r finish-reads.Post (List ℕ) (λ κs s. now (s .1 .0))
 finish-once κs a x y s t p q = both (p ∙ sym q)
-
--- The line, as the sheet's functions leave it.
-pub put-header-once : OneAnswerAnd 1 header-kinds.ps header-kinds.r header-reads.Post (List ℕ) (λ κs s. now (s .0))
-put-header-once κs a x y s t p q = both (p ∙ sym q)
-
-pub put-row-once : OneAnswerAnd 1 row-kinds.ps row-kinds.r row-reads.Post (List ℕ) (λ κs s. now (s .0))
-put-row-once κs a x y s t p q = both (p ∙ sym q)

@@ -4,12 +4,12 @@
 use Prim.Native.Nat.{ℕ, suc, _+_, _<_, _≤_}
 use native.Mathlib.Omega.{arith}
 use mathlib.Core.Bool.{Bool, true, false, cond, true≢false, false≢true}
-use mathlib.Core.List.{List, [], _∷_, _++_}
-use mathlib.Core.Path.{_≡_, refl, _∙_}
+use mathlib.Core.List.{List, [], _∷_, _++_, append-assoc}
+use mathlib.Core.Path.{_≡_, refl, ap, _∙_}
 use borrow.Author.Tests.{eq-eqb}
 use lib.Dec.{eqb}
-use lib.ListN.{length, drop}
-use Rattle.common.specs.Answers.{gives, refuses}
+use lib.ListN.{length, drop, length-append}
+use Rattle.common.specs.Answers.{refuses}
 use Rattle.common.proofs.Pairs.{both}
 use Rattle.dump.specs.Wires.{wires}
 use Rattle.readback.specs.declared.Reader.{Reader}
@@ -30,43 +30,64 @@ use Rattle.readback.specs.Reads.{
   takeOf,
   finishOf,
 }
+use Rattle.readback.specs.Calls.{readUpTo, UsedUp, GivesNext, RefusesAll, UsesSome, GivesLast}
 use Rattle.readback.proofs.Places.{refused-for-good}
-
--- ---- What an answer says
-
--- The part is used up: the reading goes on with what follows it, and the buffer is as it was.
-pub record UsedUp (r : Reader) (part values : List ℕ) (answer : Took × List ℕ) : Type 0 where
-  pub whole : answer .0 .used ≡ length part
-  pub buffer : answer .1 ≡ values
-  pub onward : (rest : List ℕ) → readFrom r (part ++ rest) ≡ readFrom (answer .0 .reader) rest
-
--- A moment is given, its values in the buffer: it is the next of the reading, which goes on behind what is used of the part.
-pub record GivesNext (r : Reader) (part : List ℕ) (answer : Took × List ℕ) : Type 0 where
-  pub values : List Bool
-  pub buffer : answer .1 ≡ bits values
-  pub forth : 0 < answer .0 .used
-  pub inside : answer .0 .used ≤ length part
-  pub onward : (rest : List ℕ)
-      → readFrom r (part ++ rest)
-      ≡ before (record { time = answer .0 .time; values = values }) (readFrom (answer .0 .reader) (drop (answer .0 .used) part ++ rest))
-
--- 9: whatever follows is refused, and reader and buffer are as they were.
-pub record RefusesAll (r : Reader) (part values : List ℕ) (answer : Took × List ℕ) : Type 0 where
-  pub kept : answer .0 .reader ≡ r
-  pub buffer : answer .1 ≡ values
-  pub onward : (rest : List ℕ) → readFrom r (part ++ rest) ≡ refuses 9
 
 -- ---- The part, byte by byte
 
--- What a part from some place on comes to is one of the three, with `used` bytes used before.
-data Comes (start : Reader) (values : List ℕ) (r : Reader) (used : ℕ) (bytes : List ℕ) : Took × List ℕ → Type 0 where
-  to-its-end : (after : Reader) (n : ℕ) → n ≡ used + length bytes
-      → ((rest : List ℕ) → readFrom r (bytes ++ rest) ≡ readFrom after rest)
-      → Comes start values r used bytes (goesOn after n, values)
-  to-a-moment : (time n taken : ℕ) (vs : List Bool) (after : Reader) → n ≡ used + taken → 0 < taken → taken ≤ length bytes
-      → ((rest : List ℕ) → readFrom r (bytes ++ rest) ≡ before (record { time = time; values = vs }) (readFrom after (drop taken bytes ++ rest)))
-      → Comes start values r used bytes (givesMoment time n after, bits vs)
-  to-nothing : ((rest : List ℕ) → readFrom r (bytes ++ rest) ≡ refuses 9) → Comes start values r used bytes (refused 9 start, values)
+-- The reader behind bytes.
+abbrev pub through : Reader → List ℕ → Reader
+through r [] = r
+through r (b ∷ bytes) = through (byteOf r b) bytes
+
+-- None of them is refused, and none begins a moment.
+abbrev pub Plain : Reader → List ℕ → Type 0
+Plain r [] = Unit {0}
+Plain r (b ∷ bytes) = (isBad (byteOf r b .place) ≡ false) × (begins r b ≡ false) × Plain (byteOf r b) bytes
+
+-- What a part from some place on comes to is one of three, with `used` bytes used before: plain bytes alone; or plain bytes and one that begins
+-- a moment, with others behind it; or the same with one that no dump has there.
+pub data Comes (start : Reader) (values : List ℕ) (r : Reader) (used : ℕ) : List ℕ → Took × List ℕ → Type 0 where
+  to-its-end : (bytes : List ℕ) (n : ℕ) → n ≡ used + length bytes → Plain r bytes
+      → Comes start values r used bytes (goesOn (through r bytes) n, values)
+  to-a-moment : (front : List ℕ) (b : ℕ) (back : List ℕ) (n : ℕ) → n ≡ used + suc (length front) → Plain r front
+      → isBad (byteOf (through r front) b .place) ≡ false
+      → begins (through r front) b ≡ true
+      → Comes start values r used (front ++ b ∷ back)
+      (givesMoment (through r front .time) n (byteOf (through r front) b), bits (through r front .values))
+  to-nothing : (front : List ℕ) (b : ℕ) (back : List ℕ) (n : ℕ) → n ≡ used + length front → Plain r front
+      → isBad (byteOf (through r front) b .place) ≡ true
+      → Comes start values r used (front ++ b ∷ back) (refused 9 n start, values)
+
+module _ (start : Reader) (values : List ℕ) where
+  -- What the others come to, a plain byte and they come to.
+  one-more : (r : Reader) (used b : ℕ) {bytes : List ℕ} {answer : Took × List ℕ} → isBad (byteOf r b .place) ≡ false → begins r b ≡ false
+      → Comes start values (byteOf r b) (suc used) bytes answer
+      → Comes start values r used (b ∷ bytes) answer
+  one-more r used b fine e (to-its-end bytes n size p) = to-its-end (b ∷ bytes) n (omega arith) (fine, e, p)
+  one-more r used b fine e (to-a-moment front c back n size p f g) = to-a-moment (b ∷ front) c back n (omega arith) (fine, e, p) f g
+  one-more r used b fine e (to-nothing front c back n size p f) = to-nothing (b ∷ front) c back n (omega arith) (fine, e, p) f
+
+  in-part : (bytes : List ℕ) (r : Reader) (used : ℕ) → Comes start values r used bytes (takenFrom start r used bytes values)
+  unfolding takenFrom
+  in-part [] r used = to-its-end [] used (omega arith) Prim.tt
+  in-part (b ∷ bytes) r used = by-tests (isBad (byteOf r b .place)) (begins r b) refl refl (in-part bytes (byteOf r b) (suc used)) where
+    by-tests : (s t : Bool) → isBad (byteOf r b .place) ≡ s → begins r b ≡ t
+        → Comes start values (byteOf r b) (suc used) bytes (takenFrom start (byteOf r b) (suc used) bytes values)
+        → Comes start values r used (b ∷ bytes)
+        (cond s (refused 9 used start, values)
+        (cond t (givesMoment (r .time) (suc used) (byteOf r b), bits (r .values))
+        (takenFrom start (byteOf r b) (suc used) bytes values)))
+    by-tests true t p q others = to-nothing [] b bytes used (omega arith) Prim.tt p
+    by-tests false true p q others = to-a-moment [] b bytes (suc used) (omega arith) Prim.tt p q
+    by-tests false false p q others = one-more r used b p q others
+
+-- With a buffer of 26 bytes a call comes to one of the three.
+pub take-comes : (r : Reader) (part values : List ℕ) → length values ≡ wires → Comes r values r 0 part (takeOf r part values)
+unfolding takeOf
+take-comes r part values size = rw (eq-eqb (length values) wires size) (in-part r values part r 0)
+
+-- ---- What is read of the bytes
 
 -- A byte that begins no moment is read, and then the others.
 plain-byte : (r : Reader) (b : ℕ) (bytes : List ℕ) → begins r b ≡ false → readFrom r (b ∷ bytes) ≡ readFrom (byteOf r b) bytes
@@ -86,118 +107,113 @@ bad-byte r b bytes e = by-test (begins r b) refl (refused-for-good _ _ _ (byteOf
   by-test true p q = first-byte r b bytes p ∙ rw q
   by-test false p q = plain-byte r b bytes p ∙ q
 
-module _ (start : Reader) (values : List ℕ) where
-  -- So what the others come to, this byte and they come to.
-  one-more : (r : Reader) (used b : ℕ) (bytes : List ℕ) {answer : Took × List ℕ} → begins r b ≡ false
-      → Comes start values (byteOf r b) (suc used) bytes answer
-      → Comes start values r used (b ∷ bytes) answer
-  one-more r used b bytes e (to-its-end after n size on) =
-      to-its-end after n (omega arith) (λ rest. plain-byte r b (bytes ++ rest) e ∙ on rest)
-  one-more r used b bytes e (to-a-moment time n taken vs after size some inside on) =
-      to-a-moment time n (suc taken) vs after (omega arith) (omega arith) (omega arith) (λ rest. plain-byte r b (bytes ++ rest) e ∙ on rest)
-  one-more r used b bytes e (to-nothing on) = to-nothing (λ rest. plain-byte r b (bytes ++ rest) e ∙ on rest)
+-- Plain bytes are read, and then the others.
+plain-bytes : (front : List ℕ) (r : Reader) (rest : List ℕ) → Plain r front → readFrom r (front ++ rest) ≡ readFrom (through r front) rest
+plain-bytes [] r rest p = refl
+plain-bytes (b ∷ front) r rest p = plain-byte r b (front ++ rest) (p .1) ∙ plain-bytes front (byteOf r b) rest (p .2)
 
-  in-part : (bytes : List ℕ) (r : Reader) (used : ℕ) → Comes start values r used bytes (takenFrom start r used bytes values)
-  unfolding takenFrom
-  in-part [] r used = to-its-end r used (omega arith) (λ rest. refl)
-  in-part (b ∷ bytes) r used = by-tests (isBad (byteOf r b .place)) (begins r b) refl refl (in-part bytes (byteOf r b) (suc used)) where
-    by-tests : (s t : Bool) → isBad (byteOf r b .place) ≡ s → begins r b ≡ t
-        → Comes start values (byteOf r b) (suc used) bytes (takenFrom start (byteOf r b) (suc used) bytes values)
-        → Comes start values r used (b ∷ bytes)
-        (cond s (refused 9 start, values)
-        (cond t (givesMoment (r .time) (suc used) (byteOf r b), bits (r .values))
-        (takenFrom start (byteOf r b) (suc used) bytes values)))
-    by-tests true t p q others = to-nothing (λ rest. bad-byte r b (bytes ++ rest) p)
-    by-tests false true p q others =
-        to-a-moment (r .time) (suc used) 1 (r .values) (byteOf r b) (omega arith) (omega arith) (omega arith)
-        (λ rest. first-byte r b (bytes ++ rest) q)
-    by-tests false false p q others = one-more r used b bytes q others
+-- So many are read of them, up to a byte that is refused.
+plain-up-to : (front : List ℕ) (r : Reader) (b : ℕ) (rest : List ℕ) → Plain r front → isBad (byteOf (through r front) b .place) ≡ true
+    → readUpTo r (front ++ b ∷ rest) ≡ length front
+unfolding readUpTo
+plain-up-to [] r b rest p e = rw e
+plain-up-to (c ∷ front) r b rest p e = rw (p .0) (ap suc (plain-up-to front (byteOf r c) b rest (p .2) e))
+
+-- Behind the byte that is the last of those used.
+pub drop-front : (front : List ℕ) (b : ℕ) (back : List ℕ) → drop (suc (length front)) (front ++ b ∷ back) ≡ back
+drop-front [] b back = refl
+drop-front (c ∷ front) b back = drop-front front b back
 
 -- ---- `take`
 
--- With a buffer of 26 bytes a call comes to one of the three.
-take-comes : (r : Reader) (part values : List ℕ) → length values ≡ wires → Comes r values r 0 part (takeOf r part values)
-unfolding takeOf
-take-comes r part values size = rw (eq-eqb (length values) wires size) (in-part r values part r 0)
-
 -- What a way says of the answer, where nothing was used before.
-its-end : (r : Reader) (part values : List ℕ) {answer : Took × List ℕ} → Comes r values r 0 part answer
+its-end : (r : Reader) {part : List ℕ} (values : List ℕ) {answer : Took × List ℕ} → Comes r values r 0 part answer
     → answer .0 .refusal ≡ 0
     → answer .0 .given ≡ false
     → UsedUp r part values answer
-its-end r part values (to-its-end after n size on) e given = record { whole = omega arith; buffer = refl; onward = on }
-its-end r part values (to-a-moment time n taken vs after size some inside on) e given = absurd (true≢false given)
-its-end r part values (to-nothing on) e given = absurd (omega arith)
+its-end r values (to-its-end bytes n size p) e given =
+    record { whole = omega arith; buffer = refl; onward = λ rest. plain-bytes bytes r rest p }
+its-end r values (to-a-moment front b back n size p f g) e given = absurd (true≢false given)
+its-end r values (to-nothing front b back n size p f) e given = absurd (omega arith)
 
-a-moment : (r : Reader) (part values : List ℕ) {answer : Took × List ℕ} → Comes r values r 0 part answer
+a-moment : (r : Reader) {part : List ℕ} (values : List ℕ) {answer : Took × List ℕ} → Comes r values r 0 part answer
     → answer .0 .given ≡ true
     → GivesNext r part answer
-a-moment r part values (to-its-end after n size on) given = absurd (false≢true given)
-a-moment r part values (to-a-moment time n taken vs after size some inside on) given =
-    let same : taken ≡ n = omega arith in
-    record { values = vs; buffer = refl; forth = omega arith; inside = omega arith; onward = rw same at on }
-a-moment r part values (to-nothing on) given = absurd (false≢true given)
+a-moment r values (to-its-end bytes n size p) given = absurd (false≢true given)
+a-moment r values (to-a-moment front b back n size p f g) given =
+    let same : n ≡ suc (length front) = omega arith in
+    record {
+      values = through r front .values;
+      buffer = refl;
+      forth = omega arith;
+      inside = simp length-append (omega arith);
+      onward = λ rest.
+          rw (same, drop-front front b back, append-assoc front (b ∷ back) rest)
+          (plain-bytes front r (b ∷ back ++ rest) p ∙ first-byte (through r front) b (back ++ rest) g);
+    }
+a-moment r values (to-nothing front b back n size p f) given = absurd (false≢true given)
 
-nothing : (r : Reader) (part values : List ℕ) {answer : Took × List ℕ} → Comes r values r 0 part answer
+nothing : (r : Reader) {part : List ℕ} (values : List ℕ) {answer : Took × List ℕ} → Comes r values r 0 part answer
     → answer .0 .refusal ≡ 9
     → RefusesAll r part values answer
-nothing r part values (to-its-end after n size on) e = absurd (omega arith)
-nothing r part values (to-a-moment time n taken vs after size some inside on) e = absurd (omega arith)
-nothing r part values (to-nothing on) e = record { kept = refl; buffer = refl; onward = on }
+nothing r values (to-its-end bytes n size p) e = absurd (omega arith)
+nothing r values (to-a-moment front b back n size p f g) e = absurd (omega arith)
+nothing r values (to-nothing front b back n size p f) e =
+    let same : n ≡ length front = omega arith in
+    record {
+      kept = refl;
+      buffer = refl;
+      inside = simp length-append (omega arith);
+      there = λ rest. rw (same, append-assoc front (b ∷ back) rest) (plain-up-to front r b (back ++ rest) p f);
+      onward = λ rest.
+          rw (append-assoc front (b ∷ back) rest)
+          (plain-bytes front r (b ∷ back ++ rest) p ∙ bad-byte (through r front) b (back ++ rest) f);
+    }
 
 -- A call that is not refused and gives no moment has used the part up.
 pub take-uses-up : (r : Reader) (part values : List ℕ) → length values ≡ wires
     → takeOf r part values .0 .refusal ≡ 0
     → takeOf r part values .0 .given ≡ false
     → UsedUp r part values (takeOf r part values)
-take-uses-up r part values size = its-end r part values (take-comes r part values size)
+take-uses-up r part values size = its-end r values (take-comes r part values size)
 
 -- One that gives a moment gives the next of the reading.
 pub take-gives : (r : Reader) (part values : List ℕ) → length values ≡ wires
     → takeOf r part values .0 .given ≡ true
     → GivesNext r part (takeOf r part values)
-take-gives r part values size = a-moment r part values (take-comes r part values size)
+take-gives r part values size = a-moment r values (take-comes r part values size)
 
 -- One that is refused with 9 has met a byte behind which nothing is ever given.
 pub take-refuses : (r : Reader) (part values : List ℕ) → length values ≡ wires
     → takeOf r part values .0 .refusal ≡ 9
     → RefusesAll r part values (takeOf r part values)
-take-refuses r part values size = nothing r part values (take-comes r part values size)
+take-refuses r part values size = nothing r values (take-comes r part values size)
 
--- How much a call uses that is not refused, whatever buffer is lent: no more than the part, and some of it where it is not empty.
-pub record UsesSome (part : List ℕ) (took : Took) : Type 0 where
-  pub inside : took .used ≤ length part
-  pub forth : 0 < length part → 0 < took .used
-
-uses-some : (r : Reader) (part values : List ℕ) {answer : Took × List ℕ} → Comes r values r 0 part answer
+-- How much a call uses that is not refused, whatever buffer is lent.
+uses-some : (r : Reader) {part : List ℕ} (values : List ℕ) {answer : Took × List ℕ} → Comes r values r 0 part answer
     → answer .0 .refusal ≡ 0
     → UsesSome part (answer .0)
-uses-some r part values (to-its-end after n size on) e = record { inside = omega arith; forth = λ h. omega arith }
-uses-some r part values (to-a-moment time n taken vs after size some inside on) e = record { inside = omega arith; forth = λ h. omega arith }
-uses-some r part values (to-nothing on) e = absurd (omega arith)
+uses-some r values (to-its-end bytes n size p) e = record { inside = omega arith; forth = λ h. omega arith }
+uses-some r values (to-a-moment front b back n size p f g) e =
+    record { inside = simp length-append (omega arith); forth = λ h. omega arith }
+uses-some r values (to-nothing front b back n size p f) e = absurd (omega arith)
 
 pub take-uses-some : (r : Reader) (part values : List ℕ) {took : Took} {left : List ℕ} → (took, left) ≡ takeOf r part values
     → took .refusal ≡ 0
     → UsesSome part took
 unfolding takeOf
 take-uses-some r part values {took} {left} = by-test (eqb (length values) wires) where
-  by-test : (t : Bool) → (took, left) ≡ cond t (takenFrom r r 0 part values) (refused 8 r, values) → took .refusal ≡ 0 → UsesSome part took
-  by-test true e zero = let f = both e in rw (f .0) (uses-some r part values (in-part r values part r 0) (rw (f .0) at zero))
+  by-test : (t : Bool) → (took, left) ≡ cond t (takenFrom r r 0 part values) (refused 8 0 r, values) → took .refusal ≡ 0 → UsesSome part took
+  by-test true e zero = let f = both e in rw (f .0) (uses-some r values (in-part r values part r 0) (rw (f .0) at zero))
   by-test false e zero = let f = both e in absurd (omega (arith, rw (f .0) at zero))
 
 -- ---- `finish`
 
--- The last moment is given, its values in the buffer: the reading ends with it.
-pub record GivesLast (r : Reader) (answer : Took × List ℕ) : Type 0 where
-  pub values : List Bool
-  pub buffer : answer .1 ≡ bits values
-  pub all : readFrom r [] ≡ gives (record { time = answer .0 .time; values = values } ∷ [])
-
 -- The answer, by whether a moment is complete.
-abbrev lastBy : Bool → Reader → List ℕ → Took × List ℕ
-lastBy t r values = cond t (givesMoment (r .time) 0 r, bits (r .values)) (refused 9 r, values)
+abbrev pub lastBy : Bool → Reader → List ℕ → Took × List ℕ
+lastBy t r values = cond t (givesMoment (r .time) 0 r, bits (r .values)) (refused 9 0 r, values)
 
-finish-comes : (r : Reader) (values : List ℕ) → length values ≡ wires → finishOf r values ≡ lastBy (complete r) r values
+pub finish-comes : (r : Reader) (values : List ℕ) → length values ≡ wires → finishOf r values ≡ lastBy (complete r) r values
 unfolding finishOf
 finish-comes r values size = rw (eq-eqb (length values) wires size)
 

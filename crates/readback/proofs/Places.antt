@@ -18,6 +18,7 @@ use Rattle.readback.specs.declared.Reader.{Reader}
 use Rattle.readback.specs.Bytes.{
   bad,
   isValue,
+  valueOf,
   wireOf,
   isDigit,
   withDigit,
@@ -115,3 +116,27 @@ was-opening-at Bad time next values b h = h
 
 pub was-opening : (r : Reader) (b : ℕ) → isOpening (byteOf r b .place) ≡ true → isOpening (r .place) ≡ true
 was-opening r b = was-opening-at (r .place) (r .time) (r .next) (r .values) b
+
+-- ---- A byte that begins a moment changes no value
+
+begun-in : (place : Place) (time next : ℕ) (values : List Bool) (b : ℕ) → begins (readerAt place time next values) b ≡ true
+    → byteOf (readerAt place time next values) b .values ≡ values
+unfolding complete begins byteOf atLine
+begun-in (Opening at) time next values b e = absurd (false≢true e)
+begun-in FirstValue time next values b e = absurd (false≢true e)
+begun-in FirstCode time next values b e = absurd (false≢true e)
+begun-in FirstEnd time next values b e = absurd (false≢true e)
+begun-in (Closing at) time next values b e = absurd (false≢true e)
+begun-in Line time next values b e = by-tests (eqb b hash && ltb 0 next) (isValue b) where
+  by-tests : (s t : Bool)
+      → cond s (readerAt (Time 0) time next values) (cond t (readerAt (Code (valueOf b)) time next values) (readerAt Bad time next values)) .values ≡ values
+  by-tests true t = refl
+  by-tests false true = refl
+  by-tests false false = refl
+begun-in (Time n) time next values b e = absurd (false≢true e)
+begun-in (Code value) time next values b e = absurd (false≢true e)
+begun-in End time next values b e = absurd (false≢true e)
+begun-in Bad time next values b e = absurd (false≢true e)
+
+pub begun-values : (r : Reader) (b : ℕ) → begins r b ≡ true → byteOf r b .values ≡ r .values
+begun-values r b = begun-in (r .place) (r .time) (r .next) (r .values) b

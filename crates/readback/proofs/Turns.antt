@@ -24,7 +24,7 @@ module _ (start r : Reader) (i : ℕ) (part values : List ℕ) where
   module _ (within : i < length part) where
     -- A byte that no dump has there.
     pub turned-bad : isBad (byteOf r (getD part i 0) .place) ≡ true
-        → takenFrom start r i (drop i part) values ≡ (refused 9 start, values)
+        → takenFrom start r i (drop i part) values ≡ (refused 9 i start, values)
     unfolding takenFrom
     turned-bad e = rw (drop-cons part i 0 within, e)
 

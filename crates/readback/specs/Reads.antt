@@ -91,9 +91,9 @@ readOf bytes = readFrom newReader bytes
 
 -- ---- By parts, with a lent buffer
 
--- A refusal: its number, the reader as it was, and nothing used.
-abbrev pub refused : ℕ → Reader → Took
-refused n r = record { refusal = n; given = false; time = 0; used = 0; reader = r }
+-- A refusal: its number, the reader as it was, and how many bytes of the part stand in front of what is refused.
+abbrev pub refused : ℕ → ℕ → Reader → Took
+refused n used r = record { refusal = n; given = false; time = 0; used = used; reader = r }
 
 -- The values of a moment in the lent buffer, each 0 or 1.
 abbrev pub bits : List Bool → List ℕ
@@ -111,18 +111,18 @@ givesMoment time used after = record { refusal = 0; given = true; time = time; u
 unfoldable pub takenFrom : Reader → Reader → ℕ → List ℕ → List ℕ → Took × List ℕ
 takenFrom start r used [] values = (goesOn r used, values)
 takenFrom start r used (b ∷ bytes) values =
-    cond (isBad (byteOf r b .place)) (refused 9 start, values)
+    cond (isBad (byteOf r b .place)) (refused 9 used start, values)
     (cond (begins r b) (givesMoment (r .time) (suc used) (byteOf r b), bits (r .values))
     (takenFrom start (byteOf r b) (suc used) bytes values))
 
 -- 8: the values' buffer is not 26 bytes. A refusal leaves the buffer as it was.
 unfoldable pub takeOf : Reader → List ℕ → List ℕ → Took × List ℕ
 takeOf r part values =
-    cond (eqb (length values) wires) (takenFrom r r 0 part values) (refused 8 r, values)
+    cond (eqb (length values) wires) (takenFrom r r 0 part values) (refused 8 0 r, values)
 
 -- The end of the dump: the last moment. 9: it is not complete.
 unfoldable pub finishOf : Reader → List ℕ → Took × List ℕ
 finishOf r values =
     cond (eqb (length values) wires)
-    (cond (complete r) (givesMoment (r .time) 0 r, bits (r .values)) (refused 9 r, values))
-    (refused 8 r, values)
+    (cond (complete r) (givesMoment (r .time) 0 r, bits (r .values)) (refused 9 0 r, values))
+    (refused 8 0 r, values)

@@ -1,7 +1,7 @@
 // Takes a value change dump back (request K2): the values of the wires at every time that is written.
 // The rule is specs/Bytes.antt, a table of what each byte comes to at each place of a dump, and specs/Reads.antt, what the bytes
 // of a whole dump come to and what each call gives. proofs/Written.antt says that what the writer writes is read back, and
-// proofs/Exact.antt that nothing else is. The module `sheets` writes the values as CSV.
+// proofs/Exact.antt that nothing else is; proofs/Calls.antt says the same of calls, however the dump is cut.
 ghost use mathlib.Core.Path.{_≡_};
 ghost use Prim.Native.Nat.{_<_};
 ghost use lib.ListN.{length};
@@ -45,8 +45,6 @@ use dump::FIRST;
 use dump::OPENING_LENGTH;
 use dump::WIRES;
 
-pub mod sheets;
-
 // Where in a dump the reader is.
 pub enum Place {
     // So many bytes of what every dump begins with are read.
@@ -78,7 +76,7 @@ pub struct Reader {
 }
 
 // What taking in a part gives: 0 or a refusal, whether a moment is complete, its time, how much of the part is used, and the
-// reader behind it. The moment's values stand in the lent buffer.
+// reader behind it. The moment's values stand in the lent buffer. At a 9 what is used are the bytes in front of the one that is refused.
 pub struct Took {
     pub refusal: u8,
     pub given: bool,
@@ -106,7 +104,7 @@ impl Reader {
         ensures { λ r. ⌜ (r, now (values .exit)) ≡ takeOf self (now (part .entry)) (now (values .entry)) ⌝ }
     {
         if values.len() != WIRES {
-            return self.refused(8);
+            return self.refused(8, 0);
         }
         let place = self.place;
         if is_opening(place) {
@@ -121,14 +119,14 @@ impl Reader {
         ensures { λ r. ⌜ (r, now (values .exit)) ≡ finishOf self (now (values .entry)) ⌝ }
     {
         if values.len() != WIRES {
-            return self.refused(8);
+            return self.refused(8, 0);
         }
         if self.complete() {
             let shown = self.values;
             show(shown, values);
             return self.gives(self.time, 0);
         }
-        self.refused(9)
+        self.refused(9, 0)
     }
 
     // Takes in the part up to the byte that begins the next moment, or to its end. The text is what every dump begins with, made once for
@@ -144,7 +142,7 @@ impl Reader {
             let after = reader.byte(text, b);
             let place = after.place;
             if is_bad(place) {
-                return self.refused(9);
+                return self.refused(9, i);
             }
             if reader.begins(b) {
                 let shown = reader.values;
@@ -378,15 +376,15 @@ impl Reader {
         self.complete() & (b == b'#')
     }
 
-    // A refusal leaves the reader as it was.
-    fn refused(self, refusal: u8) -> Took
-        ensures { λ r. ⌜ r ≡ refused refusal self ⌝ }
+    // A refusal leaves the reader as it was. So many bytes of the part stand in front of what is refused.
+    fn refused(self, refusal: u8, used: usize) -> Took
+        ensures { λ r. ⌜ r ≡ refused refusal used self ⌝ }
     {
         Took {
             refusal,
             given: false,
             time: 0,
-            used: 0,
+            used,
             reader: self,
         }
     }

@@ -8,7 +8,7 @@ use libc::STDERR_FILENO;
 use libc::STDIN_FILENO;
 use readback::Reader;
 use readback::Took;
-use readback::sheets;
+use sheets::rows;
 
 // A run: whether to go on, the reader, how many bytes of the output buffer wait to be put out, and how many rows there are.
 struct Run {
@@ -75,12 +75,12 @@ impl Run {
     // Puts the row of a moment behind those that wait. Where there is no room for it, those are put out first.
     fn row(self, reader: Reader, time: u64, out: &mut [u8]) -> Self {
         let values = reader.values;
-        let end = sheets::put_row(out, self.waiting, time, values);
+        let end = rows::put_row(out, self.waiting, time, values);
         if end != self.waiting {
             return self.with_row(reader, end);
         }
         if words::put(&NAME, out, self.waiting) {
-            let first = sheets::put_row(out, 0, time, values);
+            let first = rows::put_row(out, 0, time, values);
             return self.with_row(reader, first);
         }
         self.over()
@@ -190,7 +190,7 @@ fn main() {
     let mut values = [0u8; WIRES];
     let mut input = input_room();
     let mut out = output_room();
-    let end = sheets::put_header(&mut out, 0);
+    let end = rows::put_header(&mut out, 0);
     if words::put(&NAME, &out, end) {
         read_all(&mut input, &mut values, &mut out);
     }

@@ -1,0 +1,81 @@
+-- `cases::values::runs` is safe and ends: each turn goes on at a higher place of the dump.
+-- Assumes nothing.
+use Prim.Native.Nat.{_-_, _≤_}
+use native.Mathlib.Omega.{arith}
+use lib.ListN.{length}
+use borrow.Author.Needs.{needs}
+use Rattle.cases.proofs.values.runs.Statement.{statement}
+use Rattle.cases.proofs.values.runs.Tie as tie
+
+abbrev Inv-loop : tie.InvT-loop
+Inv-loop dump refusal small stored reader₀ at₀ from₀ reader at from = 0 ≤ from
+
+abbrev μ-loop : tie.MeasureT-loop
+μ-loop dump refusal small stored reader₀ at₀ from₀ reader at from = length dump - from
+
+new-requires : tie.Need-new-requires Inv-loop μ-loop
+new-requires c κs = search needs
+
+header-requires : tie.Need-header-requires Inv-loop μ-loop
+header-requires c κs = search needs
+
+loop-holds : tie.Need-loop-holds Inv-loop μ-loop
+loop-holds c = search needs
+
+end-requires : tie.Need-end-requires Inv-loop μ-loop
+end-requires c κs = search needs
+
+sub-take : tie.Need-sub-take Inv-loop μ-loop
+sub-take c = search needs
+
+part-take-start : tie.Need-part-take-start Inv-loop μ-loop
+part-take-start c = search needs
+
+part-take-end : tie.Need-part-take-end Inv-loop μ-loop
+part-take-end c = search needs
+
+take-requires : tie.Need-take-requires Inv-loop μ-loop
+take-requires c κs = search needs
+
+returns : tie.Need-returns Inv-loop μ-loop
+returns c = search needs
+
+row-requires : tie.Need-row-requires Inv-loop μ-loop
+row-requires c κs = search needs
+
+after-requires : tie.Need-after-requires Inv-loop μ-loop
+after-requires c κs = search needs
+
+loop-less : tie.Need-loop-less Inv-loop μ-loop
+loop-less c = search needs
+
+loop-again : tie.Need-loop-again Inv-loop μ-loop
+loop-again c = search needs
+
+ends-requires : tie.Need-ends-requires Inv-loop μ-loop
+ends-requires c κs = search needs
+
+returns-2 : tie.Need-returns-2 Inv-loop μ-loop
+returns-2 c = search needs
+
+pub runs-spec : {M : Type 1} → statement M
+runs-spec =
+    tie.close
+    (tie.spec
+    Inv-loop
+    μ-loop
+    new-requires
+    header-requires
+    loop-holds
+    end-requires
+    sub-take
+    part-take-start
+    part-take-end
+    take-requires
+    returns
+    row-requires
+    after-requires
+    loop-less
+    loop-again
+    ends-requires
+    returns-2)
