@@ -1,0 +1,29 @@
+-- `saving::messages::say` meets its contract: the text lies within the array.
+-- Assumes nothing.
+use native.Mathlib.Omega.{arith}
+use lib.ListN.{length-take}
+use borrow.Author.Needs.{needs}
+use Rattle.saving.proofs.messages.say.Statement.{statement}
+use Rattle.saving.proofs.messages.say.Tie as tie
+
+slice-aggregate-put-of-file : tie.Need-slice-aggregate-put-of-file
+slice-aggregate-put-of-file c = search needs
+
+put-of-file-requires : tie.Need-put-of-file-requires
+put-of-file-requires c κs = search needs
+
+array-share-prefix-line : tie.Need-array-share-prefix-line
+array-share-prefix-line c = let all = c .before in omega (arith, all .put-of-file .ensures .0 (omega arith))
+
+slice-aggregate-say : tie.Need-slice-aggregate-say
+slice-aggregate-say c = let all = c .before .before in simp length-take (omega (arith, all .put-of-file .ensures .0 (omega arith)))
+
+say-requires : tie.Need-say-requires
+say-requires c κs = search needs
+
+returns : tie.Need-returns
+returns c = search needs
+
+pub say-spec : {M : Type 1} → statement M
+say-spec =
+    tie.close (tie.spec slice-aggregate-put-of-file put-of-file-requires array-share-prefix-line slice-aggregate-say say-requires returns)
