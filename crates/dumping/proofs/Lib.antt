@@ -3,6 +3,7 @@ pub mod Law
 pub mod Lengths
 pub mod Once
 pub mod ReadBack
+pub mod Restarts
 pub mod RowZero
 pub mod Steps
 pub mod Taking

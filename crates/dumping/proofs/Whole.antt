@@ -133,7 +133,7 @@ pub nothing-more : (reading : Reading) (dump : Dump) → Silent reading → (row
 unfolding fromRows
 nothing-more reading dump s rows = ap (λ (o : Outcome Dump). o .0) (by.nothing-more given nothing-told dump reading s rows)
 
-no-moments : (reading : Reading) (time : ℕ) → Silent reading → (rows : List (List ℕ)) → momentsAfter time reading rows ≡ []
+pub no-moments : (reading : Reading) (time : ℕ) → Silent reading → (rows : List (List ℕ)) → momentsAfter time reading rows ≡ []
 unfolding momentsAfter adds
 no-moments reading time s [] = refl
 no-moments reading time s (row ∷ rows) = rw (s .at-row row) (no-moments reading time s rows)
