@@ -1,9 +1,9 @@
--- Request K2 on Session S: the sheet that must be written of its dump, row by row.
+-- Request K2 on Session S: the sheet that must be written of its dump, row by row. And an input that is no dump.
 -- Assumes nothing.
 use Prim.Native.Nat.{ℕ}
 use Prim.Native.String.{String}
-use mathlib.Core.List.{List, [], _∷_, map}
-use Rattle.common.specs.Ascii.{ascii, ended}
+use mathlib.Core.List.{List, [], _∷_, _++_, map}
+use Rattle.common.specs.Ascii.{ascii, lf, ended}
 
 -- The sheet: its header, and the seven times at which something is written.
 unfoldable pub sessionRows : List String
@@ -21,3 +21,7 @@ sessionRows =
 -- All of it, each row with its CRLF.
 unfoldable pub sessionSheet : List ℕ
 sessionSheet = ended (map (λ (row : String). ascii row) sessionRows)
+
+-- A line that every dump has, and a second that none has.
+unfoldable pub noDump : List ℕ
+noDump = ascii "$timescale 1 ms $end" ++ lf ∷ ascii "$end"
