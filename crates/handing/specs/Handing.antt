@@ -1,15 +1,17 @@
 -- Request K3, "Hand a lesson to another laptop": a whole run of saving, from all bytes of a trace to the image of its last state.
 -- Assumes nothing.
-use Prim.Native.Nat.{ℕ}
+use Prim.Native.Nat.{ℕ, _-_}
 use mathlib.Core.Bool.{cond}
 use mathlib.Core.List.{List, []}
-use lib.Dec.{eqb}
+use lib.Dec.{eqb, ltb}
 use lib.ListN.{take}
 use Rattle.lines.specs.Rows.{rowsOf}
 use Rattle.controller.specs.declared.State.{State}
 use Rattle.image.specs.Images.{size, imageOf, saveOf}
+use Rattle.reading.specs.declared.Phase.{Phase}
+use Rattle.reading.specs.declared.Phase.the-variants.{Header, Rows, Ended}
 use Rattle.reading.specs.declared.Reading.{Reading}
-use Rattle.reading.specs.Rows.{hasStarted, readFrom}
+use Rattle.reading.specs.Rows.{lineOf, hasStarted, readFrom}
 use Rattle.reading.specs.Whole.{readTo}
 use Rattle.reading.specs.declared.Run.{Run}
 use Rattle.handing.specs.declared.Saved.{Saved}
@@ -24,6 +26,19 @@ imageLeft reading = cond (hasStarted (reading .phase)) (imageOf (reading .state)
 -- From the controller that a run starts from, and all bytes of a trace.
 unfoldable pub savedOf : State → List ℕ → List ℕ
 savedOf state input = imageLeft (readTo (readFrom state) (rowsOf input))
+
+-- ---- Of which line the image is
+
+-- The line before one. Row 0 is line 2, so there is a row before a line from 3 on; else 0.
+abbrev pub lineBefore : ℕ → ℕ
+lineBefore line = cond (ltb 2 line) (line - 1) 0
+
+-- The line of the last good row: the one before the row that is due, or before the line that the reading ended on. Where row 0 has not been
+-- read, 0.
+abbrev pub lastLine : Phase → ℕ
+lastLine Header = 0
+lastLine (Rows due) = lineBefore (lineOf due)
+lastLine (Ended line refusal) = lineBefore line
 
 -- ---- Into a lent buffer
 

@@ -3,10 +3,13 @@
 // parts, as for `replay` (the crate `lesson`); proofs/Law.antt says that however it is cut, the image of the whole is written.
 ghost use mathlib.Core.Path.{_≡_};
 ghost use Rattle.image.specs.Images.{saveOf};
-ghost use Rattle.handing.specs.Handing.{savedBy, saveLastOf};
+ghost use Rattle.reading.specs.Rows.{lineOf};
+ghost use Rattle.handing.specs.Handing.{lineBefore, lastLine, savedBy, saveLastOf};
 use controller::State;
 use image::SIZE;
+use reading::Phase;
 use reading::Run;
+use trace::Due;
 
 // What saving gives: 0 or refusal 8, and how many bytes were written.
 pub struct Saved {
@@ -26,6 +29,37 @@ pub fn save_last(run: Run, out: &mut [u8]) -> Saved
     Saved {
         refusal: 0,
         written: 0,
+    }
+}
+
+// The line of the trace that the last state of a run is of: that of its last good row. Where row 0 has not been read it is 0.
+pub fn last_line(run: Run) -> u64
+    ensures { λ r. ⌜ r ≡ lastLine (run .reading .phase) ⌝ }
+{
+    match run.phase() {
+        Phase::Header => 0,
+        Phase::Rows(due) => line_before(line_of(due)),
+        Phase::Ended { line, refusal: _ } => line_before(line),
+    }
+}
+
+// The line before one, if that is a row of a trace.
+fn line_before(line: u64) -> u64
+    ensures { λ r. ⌜ r ≡ lineBefore line ⌝ }
+{
+    if 2 < line {
+        return line - 1;
+    }
+    0
+}
+
+// The line of the row that is due.
+fn line_of(due: Due) -> u64
+    ensures { λ r. ⌜ r ≡ lineOf due ⌝ }
+{
+    match due {
+        Due::Label(n) => (n as u64) + 2,
+        Due::Nothing => 4294967298,
     }
 }
 
