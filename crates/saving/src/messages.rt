@@ -4,8 +4,12 @@ ghost use Rattle.saving.specs.Messages.{PutWithin, ofFile, reasonWords, 
 use crate::Reason;
 use image::Fault;
 
-// Says this of a file.
+// Says this of a file; an empty path is left out.
 pub(crate) fn say(name: &[u8], path: &[u8], what: &[u8]) {
+    if path.len() == 0 {
+        words::say(name, what);
+        return;
+    }
     let mut line = [0u8; 4352];
     let end = put_of_file(&mut line, path, what);
     words::say(name, &line[..end]);

@@ -1,10 +1,16 @@
--- `saving::messages::say` meets its contract: the text lies within the array.
+-- `saving::messages::say` is safe: the text lies within the array.
 -- Assumes nothing.
 use native.Mathlib.Omega.{arith}
 use lib.ListN.{length-take}
 use borrow.Author.Needs.{needs}
 use Rattle.saving.proofs.messages.say.Statement.{statement}
 use Rattle.saving.proofs.messages.say.Tie as tie
+
+say-requires : tie.Need-say-requires
+say-requires c κs = search needs
+
+returns : tie.Need-returns
+returns c = search needs
 
 slice-aggregate-put-of-file : tie.Need-slice-aggregate-put-of-file
 slice-aggregate-put-of-file c = search needs
@@ -18,12 +24,11 @@ array-share-prefix-line c = let all = c .before in omega (arith, all .put-of-fil
 slice-aggregate-say : tie.Need-slice-aggregate-say
 slice-aggregate-say c = let all = c .before .before in simp length-take (omega (arith, all .put-of-file .ensures .0 (omega arith)))
 
-say-requires : tie.Need-say-requires
-say-requires c κs = search needs
+say-requires-2 : tie.Need-say-requires-2
+say-requires-2 c κs = search needs
 
-returns : tie.Need-returns
-returns c = search needs
+returns-2 : tie.Need-returns-2
+returns-2 c = search needs
 
 pub say-spec : {M : Type 1} → statement M
-say-spec =
-    tie.close (tie.spec slice-aggregate-put-of-file put-of-file-requires array-share-prefix-line slice-aggregate-say say-requires returns)
+say-spec = tie.close (tie.spec say-requires returns slice-aggregate-put-of-file put-of-file-requires array-share-prefix-line slice-aggregate-say say-requires-2 returns-2)

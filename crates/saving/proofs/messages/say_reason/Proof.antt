@@ -1,4 +1,4 @@
--- `saving::messages::say_reason` meets its contract: the text lies within the array.
+-- `saving::messages::say_reason` is safe: the text lies within the array.
 -- Assumes nothing.
 use native.Mathlib.Omega.{arith}
 use lib.ListN.{length-take}
