@@ -52,9 +52,9 @@ same-bodies s stamp rows otherRows times =
 
 -- ---- Handed over
 
--- A lesson is cut behind one of its rows, of which there is row 0 at least. The image that the first input leaves is saved, and loaded at any
--- stamp, whatever the other laptop held before; the second input bears any row 0, and then the same samples at the same elapsed times. Each
--- input may be any bytes that bear these, and may end in a refusal.
+-- A lesson is cut behind one of its rows, of which there is row 0 at least. The image that the first input leaves is saved, and loaded at
+-- any stamp, whatever the other laptop held before; the second input bears any row 0, and then the same samples at the same elapsed times.
+-- Each input may be any bytes that bear these, and may end in a refusal.
 pub in-two-files : (s : State) → Reached s
     → (start : Row) (more rest : List Row)
     → (again : Row) (otherRest : List Row)

@@ -19,7 +19,6 @@ use Rattle.image.specs.Conditions.{Taken}
 use Rattle.laws.specs.Reached.{Reached}
 use Rattle.laws.specs.Reached.Reached.{started, step}
 use Rattle.laws.proofs.Images.{reached-saves, reached-comes-back}
-use Rattle.reading.specs.declared.Reading.{Reading}
 use Rattle.reading.specs.Rows.{hasStarted, readFrom}
 use Rattle.reading.specs.Whole.{readTo}
 use Rattle.reading.specs.declared.Run.{Run}
@@ -32,6 +31,7 @@ use Rattle.lesson.proofs.Law.{left}
 use Rattle.lesson.proofs.Restarts.{start-stamp-not-used}
 use Rattle.handing.specs.Handing.{imageLeft, savedOf, savedBy, saveLastOf, wrote}
 use Rattle.handing.proofs.Saving.{with-row-0, without-row-0, image-left, none-left}
+use Rattle.files.specs.Left.{leftOf}
 
 -- ---- Into a lent buffer
 
@@ -75,28 +75,26 @@ module _ (state : State) (reached : Reached state) where
       ∙ ap (λ (r : Run). imageLeft (r .reading)) e
 
   module _ (input : List ℕ) where
-    -- The reading that the whole trace leaves.
-    abbrev leftOf : Reading
-    leftOf = readTo (readFrom state) (rowsOf input)
-
     -- What is written is nothing, or an image that is taken.
     pub saved-is-taken : (savedOf state input ≡ []) ⊎ Taken (savedOf state input)
     unfolding savedOf
     saved-is-taken =
-        either (hasStarted (leftOf .phase))
-        (λ read. inr (rw (image-left leftOf read) (reached-saves (leftOf .state) (left-is-reached (rowsOf input)))))
-        (λ unread. inl (none-left leftOf unread))
+        either (hasStarted (leftOf state input .phase))
+        (λ read.
+        inr (rw (image-left (leftOf state input) read) (reached-saves (leftOf state input .state) (left-is-reached (rowsOf input)))))
+        (λ unread. inl (none-left (leftOf state input) unread))
 
     -- Where row 0 was read, it loads as the controller that was left, at the new start stamp, whatever the other laptop held before ..
-    pub saved-is-loaded : hasStarted (leftOf .phase) ≡ true → (before : State) (stamp : ℕ)
-        → loadOf before (savedOf state input) stamp ≡ record { refusal = 0; state = startedAt stamp (leftOf .state) }
+    pub saved-is-loaded : hasStarted (leftOf state input .phase) ≡ true → (before : State) (stamp : ℕ)
+        → loadOf before (savedOf state input) stamp ≡ record { refusal = 0; state = startedAt stamp (leftOf state input .state) }
     unfolding savedOf
     saved-is-loaded read before stamp =
-        rw (image-left leftOf read) (reached-comes-back (leftOf .state) (left-is-reached (rowsOf input)) before stamp)
+        rw (image-left (leftOf state input) read)
+        (reached-comes-back (leftOf state input .state) (left-is-reached (rowsOf input)) before stamp)
 
     -- .. and the lesson goes on: of any further trace the same is written there as from the controller that was left here.
-    pub handed-over : hasStarted (leftOf .phase) ≡ true → (before : State) (stamp : ℕ) (further : List ℕ)
-        → resumedOf (loadOf before (savedOf state input) stamp .state) further ≡ resumedOf (leftOf .state) further
+    pub handed-over : hasStarted (leftOf state input .phase) ≡ true → (before : State) (stamp : ℕ) (further : List ℕ)
+        → resumedOf (loadOf before (savedOf state input) stamp .state) further ≡ resumedOf (leftOf state input .state) further
     handed-over read before stamp further =
         ap (λ (a : Answer). resumedOf (a .state) further) (saved-is-loaded read before stamp)
-        ∙ start-stamp-not-used (leftOf .state) stamp further
+        ∙ start-stamp-not-used (leftOf state input .state) stamp further

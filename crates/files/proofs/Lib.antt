@@ -4,7 +4,9 @@ pub mod Refusals
 pub mod EachRow
 pub mod PerRow
 pub mod Laws
+pub mod Stretches
 pub mod Between
+pub mod Later
 pub mod Cutting
 pub mod Traces
 pub mod Accounts

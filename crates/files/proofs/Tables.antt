@@ -107,7 +107,8 @@ told-cut : (came : Came) (state : State) (rest : List ℕ) → tableIn (textBy c
 unfolding rowText refusalText
 told-cut Nothing state rest = refl
 told-cut (Answered label code) state rest =
-    row-cut (decimal label) (decimal code ∷ shownFields (shownOf state)) rest (number-over label, (number-over code, shown-over (shownOf state)))
+    row-cut (decimal label) (decimal code ∷ shownFields (shownOf state)) rest
+    (number-over label, (number-over code, shown-over (shownOf state)))
 told-cut (Refused line refusal) state rest =
     row-cut (decimal line) (decimal refusal ∷ replicate 10 []) rest
     (number-over line, (number-over refusal, none-over 10))
@@ -124,7 +125,8 @@ header-cut : (rest : List ℕ) → rowsOf (headerText ++ rest) ≡ rowsOf header
 unfolding headerText orderNames lampNames joinedByCommas rowsOf before
 header-cut rest = refl
 
-pub a-file-is-a-table : (state : State) (input : List ℕ) → tableIn (resumedOf state input) ≡ tableIn headerText ++ tableOf (told state input)
+pub a-file-is-a-table : (state : State) (input : List ℕ)
+    → tableIn (resumedOf state input) ≡ tableIn headerText ++ tableOf (told state input)
 a-file-is-a-table state input =
     ap tableIn (written-is-told state input)
     ∙ ap (map fieldsOf) (header-cut (textsOf (told state input)))

@@ -42,6 +42,7 @@ use Rattle.reading.proofs.Ends.{after-refusal}
 use Rattle.reading.proofs.Starts.{behind-the-header, started-in-all}
 use Rattle.lesson.specs.Replay.{textBy, writtenOf, resumedOf}
 use Rattle.lesson.proofs.Law.{nothing-written}
+use Rattle.files.specs.Left.{leftOf}
 use Rattle.files.specs.Traces.{
   Bearable,
   AllBearable,
@@ -250,12 +251,12 @@ what-it-bears-is-answered s input samples ending bears =
 
 -- The controller that it leaves, and that row 0 was read.
 module _ (s : State) (input : List ℕ) (first : Row) (rest : List Row) (ending : List ℕ) (bears : Bears input (first ∷ rest) ending) where
-  pub left-of-it : readTo (readFrom s) (rowsOf input) .state ≡ after (startedAt (first .0) s) rest
+  pub left-of-it : leftOf s input .state ≡ after (startedAt (first .0) s) rest
   left-of-it =
       ap (λ (rows : List (List ℕ)). readTo (readFrom s) rows .state) (bears .rows)
       ∙ all-left s first rest (bears .others) ending (bears .can) (bears .ends)
 
-  pub row-0-was-read : hasStarted (readTo (readFrom s) (rowsOf input) .phase) ≡ true
+  pub row-0-was-read : hasStarted (leftOf s input .phase) ≡ true
   row-0-was-read =
       ap (λ (rows : List (List ℕ)). hasStarted (readTo (readFrom s) rows .phase)) (bears .rows)
       ∙ all-started s first rest (bears .others) ending (bears .can) (bears .ends)
@@ -267,7 +268,8 @@ unfolding rowsBearing traceRowText decimal
 rows-clean label [] = tt
 rows-clean label (r ∷ rs) = (
   fields (decimal label ∷ decimal (r .0) ∷ tripleTexts 18 (r .1))
-      (all-digits (decimal label ∷ decimal (r .0) ∷ tripleTexts 18 (r .1)) (decimal-over 20 label, (decimal-over 20 (r .0), texts-over 18 (r .1)))),
+      (all-digits (decimal label ∷ decimal (r .0) ∷ tripleTexts 18 (r .1))
+      (decimal-over 20 label, (decimal-over 20 (r .0), texts-over 18 (r .1)))),
   rows-clean (label + 1) rs,
 )
 

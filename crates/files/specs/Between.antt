@@ -1,9 +1,8 @@
--- Demand 3 of the rows of a file, from one row that accepts its sample to a later row, refused ones among them. Time is accepted time: a
--- state bears the stamp of the last accepted sample, so nothing elapses at a row that is refused.
+-- Demand 3 of the rows of a file, from one row that accepts its sample to a later row, refused ones among them.
 -- Assumes nothing.
 use Prim.Native.Nat.{ℕ, _+_, _≤_}
 use mathlib.Core.Bool.{Bool, not, _&&_, _||_}
-use mathlib.Core.List.{List, [], _∷_, _++_}
+use mathlib.Core.List.{List, _∷_}
 use mathlib.Core.Path.{_≡_}
 use lib.Dec.{T}
 use Rattle.sequence.specs.declared.Aim.{Aim}
@@ -12,39 +11,18 @@ use Rattle.sequence.specs.Places.{areClosed}
 use Rattle.controller.specs.declared.State.{State}
 use Rattle.controller.specs.declared.Shown.{Shown}
 use Rattle.controller.specs.Lamps.{shownOf}
-use Rattle.controller.specs.Stages.{elapsedOf}
 use Rattle.controller.specs.Votes.{handle, sensor}
 use Rattle.laws.specs.Reached.{Reached}
-use Rattle.reading.specs.declared.Came.the-variants.{Answered}
-use Rattle.files.specs.Told.{Told, told, Each}
-
--- ---- Of one row
+use Rattle.files.specs.Told.{Told, Each}
+use Rattle.files.specs.Stretches.{IsAnswered, elapsedOver, stateAfter, Stretch}
 
 -- The row accepts its sample: its code is 0, and it is not row 0, whose sample is not used.
 abbrev pub Accepts : Told → Type 0
-Accepts t = (label : ℕ) × (t .came ≡ Answered label 0) × (¬ (label ≡ 0))
+Accepts t = (row : IsAnswered 0 t) × (¬ (row .0 ≡ 0))
 
 -- After it the voted handle says this (true for down).
 abbrev pub HandleIs : Bool → Told → Type 0
 HandleIs down t = sensor handle (t .after .voters) ≡ down
-
--- What has elapsed at it.
-abbrev pub elapsedAt : Told → ℕ
-elapsedAt t = elapsedOf (t .before .stamp) (t .after .stamp)
-
--- ---- Of some rows
-
--- What has elapsed at them, added up.
-unfoldable pub elapsedOver : List Told → ℕ
-elapsedOver [] = 0
-elapsedOver (t ∷ ts) = elapsedAt t + elapsedOver ts
-
--- The state that the last of them shows; where there are none, the one before.
-unfoldable pub stateAfter : State → List Told → State
-stateAfter s [] = s
-stateAfter s (t ∷ ts) = stateAfter (t .after) ts
-
--- ---- Demand 3
 
 -- A row shows red, or doors CLOSED and gears at the aim.
 abbrev pub looksSettled : Aim → Shown → Bool
@@ -64,8 +42,8 @@ abbrev pub OfEveryFile : (ℕ → Aim → Shown → Type 0) → Type 0
 OfEveryFile Says =
     (state : State) →
     Reached state →
-    (input : List ℕ) (front : List Told) (first : Told) (rest back : List Told) →
-    told state input ≡ front ++ first ∷ (rest ++ back) →
+    (input : List ℕ) (first : Told) (rest : List Told) →
+    Stretch state input first rest →
     Accepts first →
     (down : Bool) →
     Each (HandleIs down) (first ∷ rest) →

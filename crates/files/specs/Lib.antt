@@ -1,7 +1,10 @@
 pub mod Told
+pub mod Tables
 pub mod RowLaws
 pub mod Shown
+pub mod Stretches
 pub mod Between
+pub mod Later
+pub mod Left
 pub mod Traces
 pub mod Cut
-pub mod Tables
