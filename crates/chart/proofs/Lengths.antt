@@ -25,8 +25,11 @@ use Rattle.chart.specs.Page.{
   lines,
   headLines,
   tailLines,
+  tableText,
   pageText,
 }
+use Rattle.chart.specs.Headings.{headingBegin, handleText, aimText, columnText, rowText, columnsText, rowsText, headingsText}
+use Rattle.table.proofs.Weights.{table-number}
 
 pub csv-length : length csvText ≡ 32374
 unfolding givenFrom flatten joinedByCommas decimal decimalUpTo
@@ -34,8 +37,9 @@ unfolding givenFrom flatten joinedByCommas decimal decimalUpTo
     csvHeader csvRow csvText
 csv-length = refl
 
-pub page-length : length pageText ≡ 13935
+pub page-length : length pageText ≡ 14082
 unfolding givenFrom flatten decimal decimalUpTo
     atAim nextGears doorsToGears doorsHome moveOf doorsAt gearsAt factsAt askedAt movingHaveOpen
-    keptOf decides decisive frameText numbersText whenText partBegin partsText nextText elseText placeText lines headLines tailLines pageText
-page-length = refl
+    keptOf decides decisive frameText numbersText whenText partBegin partsText nextText elseText placeText lines headLines tailLines
+    headingBegin handleText aimText columnText rowText columnsText rowsText headingsText tableText pageText
+page-length = rw table-number

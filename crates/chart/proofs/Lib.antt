@@ -1,3 +1,4 @@
+pub mod Aims
 pub mod Choices
 pub mod Fields
 pub mod Lengths

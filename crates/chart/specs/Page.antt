@@ -1,7 +1,7 @@
 -- Request K4: the table as a page to print (SVG, A3 upright): the 32 places of handle, doors and gears, and what comes next at
 -- each. Facts that make no difference are left out, and places that no reached state is at are grey.
 -- Assumes nothing.
-use Prim.Native.Nat.{ℕ, _+_, _*_, _/_, _%_}
+use Prim.Native.Nat.{ℕ, _+_, _*_}
 use Prim.Native.String.{String}
 use mathlib.Core.Bool.{Bool, cond}
 use mathlib.Core.List.{List, [], _∷_, _++_, flatten}
@@ -13,10 +13,12 @@ use Rattle.sequence.specs.declared.Place.{Place}
 use Rattle.sequence.specs.Moves.{moveOf}
 use Rattle.sequence.specs.Places.{movingHaveOpen}
 use Rattle.names.specs.Words.{doorsWord, gearsWord}
+use Rattle.table.specs.Sums.{tableNumber}
 use Rattle.chart.specs.declared.differences.Deciding.{Deciding}
 use Rattle.chart.specs.declared.differences.Deciding.the-variants.{Nothing, AllOpen, AllClosed, AllExtended, AllRetracted}
 use Rattle.chart.specs.declared.differences.Kept.{Kept}
 use Rattle.chart.specs.Differences.{places, aimAt, placeOf, keptOf, stays, alone, isNamed, decisive}
+use Rattle.chart.specs.Headings.{left, top, headingsText}
 use Rattle.chart.specs.Parts.{
   line,
   groupPiece,
@@ -42,17 +44,10 @@ use Rattle.chart.specs.Parts.{
   staysPiece,
   otherwisePiece,
   endOfGroupPiece,
+  tablePiece,
 }
 
 -- ---- A place
-
--- Where it stands on the page, in tenths of a millimetre: the gears' columns.
-abbrev pub left : ℕ → ℕ
-left k = 420 + 610 * (k % 4)
-
--- The doors' rows, handle up above handle down.
-abbrev pub top : ℕ → ℕ
-top k = 615 + 385 * (k / 4 % 4) + 1780 * (k / 16)
 
 -- Its frame, grey where no reached state is there.
 unfoldable pub frameText : ℕ → Bool → List ℕ
@@ -109,7 +104,7 @@ unfoldable pub lines : List String → List ℕ
 lines [] = []
 lines (text ∷ texts) = line (ascii text) ++ lines texts
 
--- The size, the styles, the title, and the headings of columns and rows.
+-- The size, the styles and the title.
 unfoldable pub headLines : List String
 headLines =
     "<svg xmlns='http://www.w3.org/2000/svg' width='297mm' height='420mm' viewBox='0 0 2970 4200'>" ∷
@@ -128,39 +123,12 @@ headLines =
     ".never rect { fill: #ddd; stroke: #bbb }" ∷
     ".never text { fill: #6b6b6b }" ∷
     ".note { font-size: 42px }" ∷
+    ".table { font-size: 36px; text-anchor: end; fill: #666 }" ∷
     "</style>" ∷
     "<rect width='2970' height='4200' style='stroke: none'/>" ∷
     "<text class='title' x='120' y='200'>The landing gear sequence</text>" ∷
     "<text x='120' y='290'>Find the handle, the row of the doors and the column of the gears: there stands what comes next.</text>" ∷
     "<text x='120' y='355'>Each sample makes at most this one move. Bold and blue: what changes.</text>" ∷
-    "<text class='handle' x='120' y='490'>Handle UP</text>" ∷
-    "<text x='760' y='490'>aims at RETRACTED</text>" ∷
-    "<text class='head' x='448' y='585'>gears RETRACTED</text>" ∷
-    "<text class='head' x='1058' y='585'>gears EXTENDING</text>" ∷
-    "<text class='head' x='1668' y='585'>gears EXTENDED</text>" ∷
-    "<text class='head' x='2278' y='585'>gears RETRACTING</text>" ∷
-    "<text class='kind' x='120' y='775'>doors</text>" ∷
-    "<text class='head' x='120' y='840'>CLOSED</text>" ∷
-    "<text class='kind' x='120' y='1160'>doors</text>" ∷
-    "<text class='head' x='120' y='1225'>OPENING</text>" ∷
-    "<text class='kind' x='120' y='1545'>doors</text>" ∷
-    "<text class='head' x='120' y='1610'>OPEN</text>" ∷
-    "<text class='kind' x='120' y='1930'>doors</text>" ∷
-    "<text class='head' x='120' y='1995'>CLOSING</text>" ∷
-    "<text class='handle' x='120' y='2270'>Handle DOWN</text>" ∷
-    "<text x='760' y='2270'>aims at EXTENDED</text>" ∷
-    "<text class='head' x='448' y='2365'>gears RETRACTED</text>" ∷
-    "<text class='head' x='1058' y='2365'>gears EXTENDING</text>" ∷
-    "<text class='head' x='1668' y='2365'>gears EXTENDED</text>" ∷
-    "<text class='head' x='2278' y='2365'>gears RETRACTING</text>" ∷
-    "<text class='kind' x='120' y='2555'>doors</text>" ∷
-    "<text class='head' x='120' y='2620'>CLOSED</text>" ∷
-    "<text class='kind' x='120' y='2940'>doors</text>" ∷
-    "<text class='head' x='120' y='3005'>OPENING</text>" ∷
-    "<text class='kind' x='120' y='3325'>doors</text>" ∷
-    "<text class='head' x='120' y='3390'>OPEN</text>" ∷
-    "<text class='kind' x='120' y='3710'>doors</text>" ∷
-    "<text class='head' x='120' y='3775'>CLOSING</text>" ∷
     []
 
 -- What a reader has to know.
@@ -173,6 +141,11 @@ tailLines =
     "</svg>" ∷
     []
 
--- The head, the places, and the notes.
+-- The number of the table that runs, in small print: a sheet with another is not of this table.
+unfoldable pub tableText : List ℕ
+tableText = tablePiece ++ decimal tableNumber ++ endOfTextPiece
+
+-- The head, the headings of both handles, the places, the table's number, and the notes.
 unfoldable pub pageText : List ℕ
-pageText = lines headLines ++ flatten (givenFrom placeText 0 places) ++ lines tailLines
+pageText =
+    lines headLines ++ headingsText 0 ++ headingsText 16 ++ flatten (givenFrom placeText 0 places) ++ tableText ++ lines tailLines

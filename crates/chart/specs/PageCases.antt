@@ -1,8 +1,9 @@
--- Request K4 at two places: the lines that the page must have there.
+-- Request K4: the headings that the page must have, and the lines that it must have at two places.
 -- Assumes nothing.
 use Prim.Native.String.{String}
 use mathlib.Core.List.{List, [], _∷_}
 use Rattle.common.specs.Case.{Case}
+use Rattle.chart.specs.Headings.{headingsText}
 use Rattle.chart.specs.Page.{placeText, lines}
 
 -- Handle up, doors OPENING, gears EXTENDED: the doors become OPEN if all are seen open, and else nothing moves.
@@ -38,3 +39,47 @@ greyLines =
 
 unfoldable pub greyPlace : Case
 greyPlace = record { name = "A place that no run comes to"; gives = placeText 1; wanted = lines greyLines }
+
+-- The headings of handle up.
+unfoldable pub upLines : List String
+upLines =
+    "<text class='handle' x='120' y='490'>Handle UP</text>" ∷
+    "<text class='aim' x='760' y='490'>aims at RETRACTED</text>" ∷
+    "<text class='head' x='448' y='585'>gears RETRACTED</text>" ∷
+    "<text class='head' x='1058' y='585'>gears EXTENDING</text>" ∷
+    "<text class='head' x='1668' y='585'>gears EXTENDED</text>" ∷
+    "<text class='head' x='2278' y='585'>gears RETRACTING</text>" ∷
+    "<text class='kind' x='120' y='775'>doors</text>" ∷
+    "<text class='head' x='120' y='840'>CLOSED</text>" ∷
+    "<text class='kind' x='120' y='1160'>doors</text>" ∷
+    "<text class='head' x='120' y='1225'>OPENING</text>" ∷
+    "<text class='kind' x='120' y='1545'>doors</text>" ∷
+    "<text class='head' x='120' y='1610'>OPEN</text>" ∷
+    "<text class='kind' x='120' y='1930'>doors</text>" ∷
+    "<text class='head' x='120' y='1995'>CLOSING</text>" ∷
+    []
+
+unfoldable pub upHeadings : Case
+upHeadings = record { name = "Handle up"; gives = headingsText 0; wanted = lines upLines }
+
+-- Of handle down.
+unfoldable pub downLines : List String
+downLines =
+    "<text class='handle' x='120' y='2270'>Handle DOWN</text>" ∷
+    "<text class='aim' x='760' y='2270'>aims at EXTENDED</text>" ∷
+    "<text class='head' x='448' y='2365'>gears RETRACTED</text>" ∷
+    "<text class='head' x='1058' y='2365'>gears EXTENDING</text>" ∷
+    "<text class='head' x='1668' y='2365'>gears EXTENDED</text>" ∷
+    "<text class='head' x='2278' y='2365'>gears RETRACTING</text>" ∷
+    "<text class='kind' x='120' y='2555'>doors</text>" ∷
+    "<text class='head' x='120' y='2620'>CLOSED</text>" ∷
+    "<text class='kind' x='120' y='2940'>doors</text>" ∷
+    "<text class='head' x='120' y='3005'>OPENING</text>" ∷
+    "<text class='kind' x='120' y='3325'>doors</text>" ∷
+    "<text class='head' x='120' y='3390'>OPEN</text>" ∷
+    "<text class='kind' x='120' y='3710'>doors</text>" ∷
+    "<text class='head' x='120' y='3775'>CLOSING</text>" ∷
+    []
+
+unfoldable pub downHeadings : Case
+downHeadings = record { name = "Handle down"; gives = headingsText 16; wanted = lines downLines }

@@ -1,4 +1,4 @@
--- Request K4: the pieces of the page that are the same at every place of handle, doors and gears.
+-- Request K4: the pieces of the page that are the same at every place of handle, doors and gears, and at every heading.
 -- Assumes nothing.
 use Prim.Native.Nat.{ℕ}
 use mathlib.Core.List.{List, [], _∷_, _++_}
@@ -100,7 +100,61 @@ otherwisePiece = line (ascii "<g transform='translate(0 176)'>") ++ line (ascii 
 abbrev pub endOfGroupPiece : List ℕ
 endOfGroupPiece = line (ascii "</g>")
 
--- All of them, in the order of the list that the code has (src/parts.rt).
+-- ---- Headings
+
+-- The class of a handle's heading.
+abbrev pub handleClass : List ℕ
+handleClass = ascii "handle"
+
+-- Of what it aims at.
+abbrev pub aimClass : List ℕ
+aimClass = ascii "aim"
+
+-- Of the words over a column and before a row.
+abbrev pub headClass : List ℕ
+headClass = ascii "head"
+
+-- Of what the words before a row are of.
+abbrev pub kindClass : List ℕ
+kindClass = ascii "kind"
+
+-- Before how far across the page a heading stands.
+abbrev pub acrossPiece : List ℕ
+acrossPiece = ascii "' x='"
+
+-- Before how far down.
+abbrev pub downPiece : List ℕ
+downPiece = ascii "' y='"
+
+-- Before its words.
+abbrev pub wordsPiece : List ℕ
+wordsPiece = ascii "'>"
+
+-- Before the handle's word.
+abbrev pub handlePiece : List ℕ
+handlePiece = ascii "Handle "
+
+-- Before the word of what it aims at.
+abbrev pub aimsPiece : List ℕ
+aimsPiece = ascii "aims at "
+
+-- Before the word of a column's gears.
+abbrev pub columnPiece : List ℕ
+columnPiece = ascii "gears "
+
+-- What the word before a row is of.
+abbrev pub rowPiece : List ℕ
+rowPiece = line (ascii "doors</text>")
+
+-- ---- The table's number
+
+-- The beginning of its line.
+abbrev pub tablePiece : List ℕ
+tablePiece = ascii "<text class='table' x='2840' y='4151'>table number "
+
+-- ---- All of them
+
+-- In the order of the list that the code has (src/parts.rt).
 unfoldable pub parts : List (List ℕ)
 parts =
-    groupPiece ∷ possiblePiece ∷ neverPiece ∷ movedPiece ∷ spacePiece ∷ rectPiece ∷ numbersPiece ∷ toPiece ∷ endOfTextPiece ∷ whenPiece ∷ alwaysPiece ∷ ifOpenPiece ∷ ifClosedPiece ∷ ifExtendedPiece ∷ ifRetractedPiece ∷ partPiece ∷ keepsPiece ∷ movesPiece ∷ doorsPiece ∷ gearsPiece ∷ staysPiece ∷ otherwisePiece ∷ endOfGroupPiece ∷ []
+    groupPiece ∷ possiblePiece ∷ neverPiece ∷ movedPiece ∷ spacePiece ∷ rectPiece ∷ numbersPiece ∷ toPiece ∷ endOfTextPiece ∷ whenPiece ∷ alwaysPiece ∷ ifOpenPiece ∷ ifClosedPiece ∷ ifExtendedPiece ∷ ifRetractedPiece ∷ partPiece ∷ keepsPiece ∷ movesPiece ∷ doorsPiece ∷ gearsPiece ∷ staysPiece ∷ otherwisePiece ∷ endOfGroupPiece ∷ handleClass ∷ aimClass ∷ headClass ∷ kindClass ∷ acrossPiece ∷ downPiece ∷ wordsPiece ∷ handlePiece ∷ aimsPiece ∷ columnPiece ∷ rowPiece ∷ tablePiece ∷ []

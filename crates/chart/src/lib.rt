@@ -2,5 +2,6 @@
 // (`table::Asked::next`), which is what the controller runs.
 pub mod csv;
 mod differences;
+mod headings;
 pub mod page;
 mod parts;

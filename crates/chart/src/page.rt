@@ -1,14 +1,13 @@
 // The table as a page to print (SVG, A3 upright). The rule is specs/Page.antt.
 // The text is put piece by piece: every function puts its piece if there is room for it, and at the top there is.
 ghost use mathlib.Core.Bool.{cond};
-ghost use mathlib.Core.List.{[]};
+ghost use mathlib.Core.List.{[], flatten};
 ghost use mathlib.Core.Path.{_≡_};
+ghost use Rattle.common.specs.Lists.{givenFrom};
 ghost use Rattle.names.specs.Words.{entry};
 ghost use Rattle.texts.specs.Puts.{PutIfRoom, putOf};
-ghost use Rattle.chart.specs.Differences.{isNamed};
+ghost use Rattle.chart.specs.Differences.{places, isNamed};
 ghost use Rattle.chart.specs.Page.{
-  left,
-  top,
   frameText,
   numbersText,
   whenWord,
@@ -17,11 +16,15 @@ ghost use Rattle.chart.specs.Page.{
   nextText,
   elseText,
   placeText,
+  tableText,
   pageText,
 };
 ghost use Rattle.chart.specs.Parts.{parts};
 use crate::differences;
 use crate::differences::Deciding;
+use crate::headings::left;
+use crate::headings::put_headings;
+use crate::headings::top;
 use crate::parts;
 use crate::parts::put_part;
 use sequence::Aim;
@@ -31,8 +34,8 @@ use table::Asked;
 // There are so many places of handle, doors and gears.
 const PLACES: u8 = 32;
 
-// The size, the styles, the title, and the headings of columns and rows.
-const HEAD: [u8; 2598] =
+// The size, the styles and the title.
+const HEAD: [u8; 1186] =
     *b"<svg xmlns='http://www.w3.org/2000/svg' width='297mm' height='420mm' viewBox='0 0 2970 4200'>\n\
 <title>The landing gear sequence</title>\n\
 <style>\n\
@@ -49,39 +52,12 @@ rect { fill: #fff; stroke: #333; stroke-width: 4; rx: 12px }\n\
 .never rect { fill: #ddd; stroke: #bbb }\n\
 .never text { fill: #6b6b6b }\n\
 .note { font-size: 42px }\n\
+.table { font-size: 36px; text-anchor: end; fill: #666 }\n\
 </style>\n\
 <rect width='2970' height='4200' style='stroke: none'/>\n\
 <text class='title' x='120' y='200'>The landing gear sequence</text>\n\
 <text x='120' y='290'>Find the handle, the row of the doors and the column of the gears: there stands what comes next.</text>\n\
-<text x='120' y='355'>Each sample makes at most this one move. Bold and blue: what changes.</text>\n\
-<text class='handle' x='120' y='490'>Handle UP</text>\n\
-<text x='760' y='490'>aims at RETRACTED</text>\n\
-<text class='head' x='448' y='585'>gears RETRACTED</text>\n\
-<text class='head' x='1058' y='585'>gears EXTENDING</text>\n\
-<text class='head' x='1668' y='585'>gears EXTENDED</text>\n\
-<text class='head' x='2278' y='585'>gears RETRACTING</text>\n\
-<text class='kind' x='120' y='775'>doors</text>\n\
-<text class='head' x='120' y='840'>CLOSED</text>\n\
-<text class='kind' x='120' y='1160'>doors</text>\n\
-<text class='head' x='120' y='1225'>OPENING</text>\n\
-<text class='kind' x='120' y='1545'>doors</text>\n\
-<text class='head' x='120' y='1610'>OPEN</text>\n\
-<text class='kind' x='120' y='1930'>doors</text>\n\
-<text class='head' x='120' y='1995'>CLOSING</text>\n\
-<text class='handle' x='120' y='2270'>Handle DOWN</text>\n\
-<text x='760' y='2270'>aims at EXTENDED</text>\n\
-<text class='head' x='448' y='2365'>gears RETRACTED</text>\n\
-<text class='head' x='1058' y='2365'>gears EXTENDING</text>\n\
-<text class='head' x='1668' y='2365'>gears EXTENDED</text>\n\
-<text class='head' x='2278' y='2365'>gears RETRACTING</text>\n\
-<text class='kind' x='120' y='2555'>doors</text>\n\
-<text class='head' x='120' y='2620'>CLOSED</text>\n\
-<text class='kind' x='120' y='2940'>doors</text>\n\
-<text class='head' x='120' y='3005'>OPENING</text>\n\
-<text class='kind' x='120' y='3325'>doors</text>\n\
-<text class='head' x='120' y='3390'>OPEN</text>\n\
-<text class='kind' x='120' y='3710'>doors</text>\n\
-<text class='head' x='120' y='3775'>CLOSING</text>\n";
+<text x='120' y='355'>Each sample makes at most this one move. Bold and blue: what changes.</text>\n";
 
 // What a reader has to know.
 const TAIL: [u8; 567] =
@@ -92,7 +68,7 @@ const TAIL: [u8; 567] =
 </svg>\n";
 
 // The page has so many bytes.
-const LENGTH: usize = 13935;
+const LENGTH: usize = 14082;
 
 // Puts the page into a lent buffer: the place after it, or the same place where there is no room for it.
 pub fn put_page(out: &mut [u8], at: usize) -> usize
@@ -108,17 +84,38 @@ pub fn put_page(out: &mut [u8], at: usize) -> usize
     put_all(out, at)
 }
 
-// Puts the head, all places and the notes.
+// Puts the head, the headings, all places, the table's number and the notes.
 fn put_all(text: &mut [u8], at: usize) -> usize
     ensures { λ r. ⌜ PutIfRoom (now (text .entry)) at pageText (now (text .exit)) r ⌝ }
 {
-    let mut next = texts::put(text, at, &HEAD);
+    let headed = texts::put(text, at, &HEAD);
+    let up = put_headings(text, headed, 0);
+    let down = put_headings(text, up, 16);
+    let placed = put_places(text, down);
+    let numbered = put_table_number(text, placed);
+    texts::put(text, numbered, &TAIL)
+}
+
+// Puts all places.
+fn put_places(text: &mut [u8], at: usize) -> usize
+    ensures { λ r. ⌜ PutIfRoom (now (text .entry)) at (flatten (givenFrom placeText 0 places)) (now (text .exit)) r ⌝ }
+{
+    let mut next = at;
     let mut k = 0;
     while k < PLACES {
         next = put_place(text, next, k);
         k += 1;
     }
-    texts::put(text, next, &TAIL)
+    next
+}
+
+// Puts the table's number.
+fn put_table_number(text: &mut [u8], at: usize) -> usize
+    ensures { λ r. ⌜ PutIfRoom (now (text .entry)) at tableText (now (text .exit)) r ⌝ }
+{
+    let opened = put_part(text, at, parts::TABLE);
+    let numbered = texts::put_number(text, opened, table::table_number());
+    put_part(text, numbered, parts::END)
 }
 
 // Puts place k.
@@ -140,20 +137,6 @@ fn put_place(text: &mut [u8], at: usize, k: u8) -> usize
     );
     let done = put_else(text, told, aim, from, fact);
     put_part(text, done, parts::END_GROUP)
-}
-
-// How far across the page place k stands.
-fn left(k: u8) -> u64
-    ensures { λ r. ⌜ r ≡ left k ⌝ }
-{
-    420 + 610 * ((k % 4) as u64)
-}
-
-// How far down.
-fn top(k: u8) -> u64
-    ensures { λ r. ⌜ r ≡ top k ⌝ }
-{
-    615 + 385 * ((k / 4 % 4) as u64) + 1780 * ((k / 16) as u64)
 }
 
 // One of two pieces.

@@ -1,4 +1,4 @@
-// The pieces of the page that are the same at every place (specs/Parts.antt): one text, and the places where they begin.
+// The pieces of the page that are the same at every place and heading (specs/Parts.antt): one text, and the places where they begin.
 ghost use Rattle.names.specs.Words.{entry};
 ghost use Rattle.texts.specs.Puts.{PutIfRoom};
 ghost use Rattle.chart.specs.Parts.{parts};
@@ -50,11 +50,35 @@ pub(crate) const ELSE: usize = 21;
 
 pub(crate) const END_GROUP: usize = 22;
 
+pub(crate) const HANDLE_CLASS: usize = 23;
+
+pub(crate) const AIM_CLASS: usize = 24;
+
+pub(crate) const HEAD_CLASS: usize = 25;
+
+pub(crate) const KIND_CLASS: usize = 26;
+
+pub(crate) const ACROSS: usize = 27;
+
+pub(crate) const DOWN: usize = 28;
+
+pub(crate) const WORDS: usize = 29;
+
+pub(crate) const HANDLE: usize = 30;
+
+pub(crate) const AIMS_AT: usize = 31;
+
+pub(crate) const COLUMN: usize = 32;
+
+pub(crate) const ROW: usize = 33;
+
+pub(crate) const TABLE: usize = 34;
+
 // There are so many.
-const COUNT: usize = 23;
+const COUNT: usize = 35;
 
 // All pieces, one after the other. (The blanks that two of them begin with stand at the end of a line.)
-const PARTS: [u8; 410] = *b"<g class='\
+const PARTS: [u8; 524] = *b"<g class='\
 place\
 never\
 ' transform='translate( \
@@ -74,10 +98,22 @@ moves\
 ' x='28' y='174'>gears \
 <text x='28' y='116'>stays</text>\n\
 <g transform='translate(0 176)'>\n<text class='when' x='28' y='56'>else</text>\n\
-</g>\n";
+</g>\n\
+handle\
+aim\
+head\
+kind\
+' x='\
+' y='\
+'>\
+Handle \
+aims at \
+gears \
+doors</text>\n\
+<text class='table' x='2840' y='4151'>table number ";
 
 // Where each begins, and where the last one ends.
-const STARTS: [usize; 24] = [
+const STARTS: [usize; 36] = [
     0,
     10,
     15,
@@ -102,6 +138,18 @@ const STARTS: [usize; 24] = [
     327,
     405,
     410,
+    416,
+    419,
+    423,
+    427,
+    432,
+    437,
+    439,
+    446,
+    454,
+    460,
+    473,
+    524,
 ];
 
 // Puts piece k; past the last there is none.

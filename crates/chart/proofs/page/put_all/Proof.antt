@@ -1,45 +1,22 @@
--- `chart::page::put_all` meets its contract: the head, after k turns the first k places, and the notes.
+-- `chart::page::put_all` meets its contract: the head, the headings, the places, the table's number, and the notes.
 -- Assumes nothing.
-use Prim.Native.Nat.{ℕ, _-_, _≤_}
-use native.Mathlib.Omega.{arith}
-use mathlib.Core.List.{flatten}
-use mathlib.Core.Path.{_≡_, refl, ap}
-use lib.ListN.{length}
-use Rattle.common.specs.Lists.{givenFrom}
-use Rattle.common.proofs.Given.{text-turn}
-use Rattle.chart.specs.Page.{placeText, lines, headLines, tailLines, pageText}
-use Rattle.texts.specs.Puts.{PutIfRoom}
-use Rattle.texts.proofs.Pieces.{nothing, same, put, and}
+use Rattle.chart.specs.Page.{lines, headLines, tailLines, pageText}
+use Rattle.texts.proofs.Pieces.{put, and}
 use borrow.Author.Needs.{needs}
 use Rattle.chart.proofs.page.put_all.Statement.{statement}
 use Rattle.chart.proofs.page.put_all.Tie as tie
 
-abbrev Inv-loop : tie.InvT-loop
-Inv-loop text₀ at next₀ k₀ _ text next k =
-    (k ≤ 32) × (length text ≡ length text₀) × PutIfRoom text₀ next₀ (flatten (givenFrom placeText 0 k)) text next
-
-abbrev μ-loop : tie.MeasureT-loop
-μ-loop text₀ at next₀ k₀ _ text next k = 32 - k
-
-loop-holds : tie.Need-loop-holds Inv-loop μ-loop
-unfolding givenFrom flatten
-loop-holds c = (omega arith, refl, nothing _ _)
-
-loop-again : tie.Need-loop-again Inv-loop μ-loop
-loop-again c =
-    let one = c .before .before in
-    let l = one .before .before .before .loop in
-    (omega arith, omega arith, same (text-turn placeText (l .k)) (and (l .inv .2) (one .put-place .ensures)))
-
-returns : tie.Need-returns Inv-loop μ-loop
+returns : tie.Need-returns
 unfolding lines headLines tailLines pageText
 returns c =
     let ended = c .before .before in
-    let l = ended .before .before .before .before .loop in
-    let all : l .k ≡ 32 = omega arith in
-    and
-    (and (put (ended .before .before .before .before .before .before .before .put .ensures)) (same (ap (λ (k : ℕ). flatten (givenFrom placeText 0 k)) all) (l .inv .2)))
+    let numbered = ended .before .before .before .before .before in
+    let placed = numbered .before .before .before .before in
+    let down = placed .before .before .before .before in
+    let up = down .before .before .before .before in
+    let headed = up .before .before .before .before in
+    and (and (and (and (and (put (headed .put .ensures)) (up .put-headings .ensures)) (down .put-headings2 .ensures)) (placed .put-places .ensures)) (numbered .put-table-number .ensures))
     (put (ended .put2 .ensures))
 
 pub put-all-spec : {M : Type 1} → statement M
-put-all-spec = tie.close (tie.spec Inv-loop μ-loop (λ c. search needs) (λ c κs. search needs) loop-holds (λ c κs. search needs) (λ c. search needs) (λ c. search needs) loop-again (λ c. search needs) (λ c κs. search needs) (λ c. search needs) returns)
+put-all-spec = tie.close (tie.spec (λ c. search needs) (λ c κs. search needs) (λ c κs. search needs) (λ c κs. search needs) (λ c κs. search needs) (λ c κs. search needs) (λ c. search needs) (λ c κs. search needs) (λ c. search needs) returns)

@@ -1,0 +1,18 @@
+-- `chart::headings::capital` meets its contract: the two tests of the rule.
+-- Assumes nothing.
+use borrow.Author.Needs.{needs}
+use borrow.Author.Tests.{lt-ltb, le-ltb}
+use Rattle.chart.proofs.headings.capital.Statement.{statement}
+use Rattle.chart.proofs.headings.capital.Tie as tie
+
+returns : tie.Need-returns
+returns c = simp (lt-ltb _ _ (c .if1 .taken))
+
+returns-2 : tie.Need-returns-2
+returns-2 c = simp (le-ltb _ _ (c .before .if1 .left), lt-ltb _ _ (c .if2 .taken))
+
+returns-3 : tie.Need-returns-3
+returns-3 c = simp (le-ltb _ _ (c .before .if1 .left), le-ltb _ _ (c .if2 .left))
+
+pub capital-spec : {M : Type 1} → statement M
+capital-spec = tie.close (tie.spec returns returns-2 (λ c. search needs) returns-3)

@@ -1,0 +1,89 @@
+-- Request K4: where the 32 places stand on the page, and their headings, each computed from what stands at a place: the handle above
+-- its sixteen places, the gears above a column, the doors before a row.
+-- Assumes nothing.
+use Prim.Native.Nat.{ℕ, _+_, _-_, _*_, _/_, _%_}
+use mathlib.Core.Bool.{cond}
+use mathlib.Core.List.{List, _++_, map}
+use lib.Dec.{ltb}
+use Rattle.common.specs.Decimal.{decimal}
+use Rattle.sequence.specs.declared.Aim.{Aim}
+use Rattle.sequence.specs.declared.Aim.the-variants.{ToRetracted, ToExtended}
+use Rattle.sequence.specs.declared.Gears.{Gears}
+use Rattle.sequence.specs.declared.Gears.the-variants.{Retracted, Extended}
+use Rattle.names.specs.Words.{doorsWord, gearsWord, handleWord}
+use Rattle.chart.specs.Differences.{aimAt, placeOf}
+use Rattle.chart.specs.Parts.{
+  partPiece,
+  endOfTextPiece,
+  handleClass,
+  aimClass,
+  headClass,
+  kindClass,
+  acrossPiece,
+  downPiece,
+  wordsPiece,
+  handlePiece,
+  aimsPiece,
+  columnPiece,
+  rowPiece,
+}
+
+-- ---- Where place k stands, in tenths of a millimetre
+
+-- The gears' columns.
+abbrev pub left : ℕ → ℕ
+left k = 420 + 610 * (k % 4)
+
+-- The doors' rows, handle up above handle down.
+abbrev pub top : ℕ → ℕ
+top k = 615 + 385 * (k / 4 % 4) + 1780 * (k / 16)
+
+-- ---- Words
+
+-- A small letter's capital; what is no small letter stays.
+abbrev pub capital : ℕ → ℕ
+capital letter = cond (ltb letter 97) letter (cond (ltb 122 letter) letter (letter - 32))
+
+abbrev pub capitals : List ℕ → List ℕ
+capitals word = map capital word
+
+-- The gears that are at an aim.
+abbrev pub aimed : Aim → Gears
+aimed ToRetracted = Retracted
+aimed ToExtended = Extended
+
+-- ---- Headings
+
+-- The beginning: its class, and where it stands.
+unfoldable pub headingBegin : List ℕ → ℕ → ℕ → List ℕ
+headingBegin class across down = partPiece ++ class ++ acrossPiece ++ decimal across ++ downPiece ++ decimal down ++ wordsPiece
+
+-- The handle of place k, above it.
+unfoldable pub handleText : ℕ → List ℕ
+handleText k = headingBegin handleClass 120 (top k - 125) ++ handlePiece ++ capitals (handleWord (aimAt k)) ++ endOfTextPiece
+
+-- What it aims at, beside it.
+unfoldable pub aimText : ℕ → List ℕ
+aimText k = headingBegin aimClass 760 (top k - 125) ++ aimsPiece ++ gearsWord (aimed (aimAt k)) ++ endOfTextPiece
+
+-- The gears of place k, above it.
+unfoldable pub columnText : ℕ → List ℕ
+columnText k = headingBegin headClass (left k + 28) (top k - 30) ++ columnPiece ++ gearsWord (placeOf k .gears) ++ endOfTextPiece
+
+-- The doors of place k, before its row.
+unfoldable pub rowText : ℕ → List ℕ
+rowText k =
+    headingBegin kindClass 120 (top k + 160) ++ rowPiece ++
+    headingBegin headClass 120 (top k + 225) ++ doorsWord (placeOf k .doors) ++ endOfTextPiece
+
+-- The four columns of the places from k on.
+unfoldable pub columnsText : ℕ → List ℕ
+columnsText k = columnText k ++ columnText (k + 1) ++ columnText (k + 2) ++ columnText (k + 3)
+
+-- Their four rows.
+unfoldable pub rowsText : ℕ → List ℕ
+rowsText k = rowText k ++ rowText (k + 4) ++ rowText (k + 8) ++ rowText (k + 12)
+
+-- All headings of the sixteen places from k on, which have one handle.
+unfoldable pub headingsText : ℕ → List ℕ
+headingsText k = handleText k ++ aimText k ++ columnsText k ++ rowsText k

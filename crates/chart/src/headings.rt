@@ -1,0 +1,177 @@
+// Where the places stand on the page, and the headings above and before them. The rule is specs/Headings.antt.
+// The text is put piece by piece: every function puts its piece if there is room for it.
+ghost use mathlib.Core.Path.{_≡_};
+ghost use Prim.Native.Nat.{_≤_};
+ghost use Rattle.names.specs.Words.{entry, handleWord};
+ghost use Rattle.texts.specs.Puts.{PutIfRoom};
+ghost use Rattle.chart.specs.Headings.{
+  left,
+  top,
+  capital,
+  capitals,
+  aimed,
+  headingBegin,
+  handleText,
+  aimText,
+  columnText,
+  rowText,
+  columnsText,
+  rowsText,
+  headingsText,
+};
+ghost use Rattle.chart.specs.Parts.{parts};
+use crate::parts;
+use crate::parts::put_part;
+use sequence::Aim;
+use sequence::Gears;
+use table::Asked;
+
+// How far across the page place k stands.
+pub(crate) fn left(k: u8) -> u64
+    ensures { λ r. ⌜ r ≡ left k ⌝ }
+{
+    420 + 610 * ((k % 4) as u64)
+}
+
+// How far down.
+pub(crate) fn top(k: u8) -> u64
+    ensures { λ r. ⌜ r ≡ top k ⌝ }
+{
+    615 + 385 * ((k / 4 % 4) as u64) + 1780 * ((k / 16) as u64)
+}
+
+// Puts the headings of the sixteen places from k on.
+pub(crate) fn put_headings(text: &mut [u8], at: usize, k: u8) -> usize
+    requires { ⌜ k ≤ 16 ⌝ }
+    ensures { λ r. ⌜ PutIfRoom (now (text .entry)) at (headingsText k) (now (text .exit)) r ⌝ }
+{
+    let handle = put_handle(text, at, k);
+    let aim = put_aim(text, handle, k);
+    let columns = put_columns(text, aim, k);
+    put_rows(text, columns, k)
+}
+
+// Puts the headings of their four columns.
+fn put_columns(text: &mut [u8], at: usize, k: u8) -> usize
+    requires { ⌜ k ≤ 16 ⌝ }
+    ensures { λ r. ⌜ PutIfRoom (now (text .entry)) at (columnsText k) (now (text .exit)) r ⌝ }
+{
+    let first = put_column(text, at, k);
+    let second = put_column(text, first, k + 1);
+    let third = put_column(text, second, k + 2);
+    put_column(text, third, k + 3)
+}
+
+// Puts the headings of their four rows.
+fn put_rows(text: &mut [u8], at: usize, k: u8) -> usize
+    requires { ⌜ k ≤ 16 ⌝ }
+    ensures { λ r. ⌜ PutIfRoom (now (text .entry)) at (rowsText k) (now (text .exit)) r ⌝ }
+{
+    let first = put_row(text, at, k);
+    let second = put_row(text, first, k + 4);
+    let third = put_row(text, second, k + 8);
+    put_row(text, third, k + 12)
+}
+
+// Puts the handle of place k.
+fn put_handle(text: &mut [u8], at: usize, k: u8) -> usize
+    ensures { λ r. ⌜ PutIfRoom (now (text .entry)) at (handleText k) (now (text .exit)) r ⌝ }
+{
+    let asked = Asked::numbered(16 * (k as usize));
+    let aim = asked.aim;
+    let begun = put_begin(text, at, parts::HANDLE_CLASS, 120, top(k) - 125);
+    let said = put_part(text, begun, parts::HANDLE);
+    let named = put_capitals(text, said, aim);
+    put_part(text, named, parts::END)
+}
+
+// Puts what it aims at.
+fn put_aim(text: &mut [u8], at: usize, k: u8) -> usize
+    ensures { λ r. ⌜ PutIfRoom (now (text .entry)) at (aimText k) (now (text .exit)) r ⌝ }
+{
+    let asked = Asked::numbered(16 * (k as usize));
+    let aim = asked.aim;
+    let begun = put_begin(text, at, parts::AIM_CLASS, 760, top(k) - 125);
+    let said = put_part(text, begun, parts::AIMS_AT);
+    let named = names::put_gears(text, said, aimed(aim));
+    put_part(text, named, parts::END)
+}
+
+// Puts the gears of place k.
+fn put_column(text: &mut [u8], at: usize, k: u8) -> usize
+    ensures { λ r. ⌜ PutIfRoom (now (text .entry)) at (columnText k) (now (text .exit)) r ⌝ }
+{
+    let asked = Asked::numbered(16 * (k as usize));
+    let place = asked.place;
+    let gears = place.gears;
+    let begun = put_begin(text, at, parts::HEAD_CLASS, left(k) + 28, top(k) - 30);
+    let said = put_part(text, begun, parts::COLUMN);
+    let named = names::put_gears(text, said, gears);
+    put_part(text, named, parts::END)
+}
+
+// Puts the doors of place k.
+fn put_row(text: &mut [u8], at: usize, k: u8) -> usize
+    ensures { λ r. ⌜ PutIfRoom (now (text .entry)) at (rowText k) (now (text .exit)) r ⌝ }
+{
+    let asked = Asked::numbered(16 * (k as usize));
+    let place = asked.place;
+    let doors = place.doors;
+    let down = top(k);
+    let begun = put_begin(text, at, parts::KIND_CLASS, 120, down + 160);
+    let said = put_part(text, begun, parts::ROW);
+    let begun = put_begin(text, said, parts::HEAD_CLASS, 120, down + 225);
+    let named = names::put_doors(text, begun, doors);
+    put_part(text, named, parts::END)
+}
+
+// Puts the beginning of a heading: its class, and where it stands.
+fn put_begin(text: &mut [u8], at: usize, class: usize, across: u64, down: u64) -> usize
+    ensures { λ r. ⌜ PutIfRoom (now (text .entry)) at (headingBegin (entry parts class) across down) (now (text .exit)) r ⌝ }
+{
+    let opened = put_part(text, at, parts::LINE);
+    let classed = put_part(text, opened, class);
+    let sided = put_part(text, classed, parts::ACROSS);
+    let acrossed = texts::put_number(text, sided, across);
+    let lowered = put_part(text, acrossed, parts::DOWN);
+    let downed = texts::put_number(text, lowered, down);
+    put_part(text, downed, parts::WORDS)
+}
+
+// Puts the handle's word in capitals.
+fn put_capitals(text: &mut [u8], at: usize, aim: Aim) -> usize
+    ensures { λ r. ⌜ PutIfRoom (now (text .entry)) at (capitals (handleWord aim)) (now (text .exit)) r ⌝ }
+{
+    let mut word = [0; 4];
+    let n = names::put_handle(&mut word, 0, aim);
+    let raised = [
+        capital(word[0]),
+        capital(word[1]),
+        capital(word[2]),
+        capital(word[3]),
+    ];
+    texts::put(text, at, &raised[..n])
+}
+
+// A small letter's capital; what is no small letter stays.
+fn capital(letter: u8) -> u8
+    ensures { λ r. ⌜ r ≡ capital letter ⌝ }
+{
+    if letter < b'a' {
+        return letter;
+    }
+    if b'z' < letter {
+        return letter;
+    }
+    letter - 32
+}
+
+// The gears that are at an aim.
+fn aimed(aim: Aim) -> Gears
+    ensures { λ r. ⌜ r ≡ aimed aim ⌝ }
+{
+    match aim {
+        Aim::ToRetracted => Gears::Retracted,
+        Aim::ToExtended => Gears::Extended,
+    }
+}
