@@ -12,3 +12,4 @@ pub mod Traces
 pub mod Accounts
 pub mod Cut
 pub mod Tables
+pub mod WorstFile

@@ -73,7 +73,7 @@ pub record Run (P : State → Type 0) (s : State) (rows : List Told) (samples : 
   pub time : elapsedIn s samples ≡ elapsedOver rows
   pub same : after s samples ≡ stateAfter s rows
 
-stamp-of : (s : State) (r : Row) → isTaken s r ≡ true → next s r .stamp ≡ r .0
+pub stamp-of : (s : State) (r : Row) → isTaken s r ≡ true → next s r .stamp ≡ r .0
 unfolding isTaken stages
 stamp-of s r e =
     ap (λ (t : State). t .stamp) (taken-is-accepted s (r .0) (r .1) (eqb-true (stepOf s (r .0) (r .1) .refusal) 0 e))

@@ -64,7 +64,7 @@ use Rattle.files.proofs.Cutting.{NoCr, NoneHasCr, clean, tested, cut-ag
 
 -- ---- One row
 
-row-read : (n : ℕ) (s : State) (r : Row) → n ≤ greatest → Bearable r
+pub row-read : (n : ℕ) (s : State) (r : Row) → n ≤ greatest → Bearable r
     → rowOf (readAt (Rows (Label n)) s) (traceRowText n (r .0) (r .1)) ≡ shownRow (Label n) n (answerTo s n (r .0) (r .1))
 unfolding rowOf traceRow noSample
 row-read n s r fits bears =
@@ -72,18 +72,18 @@ row-read n s r fits bears =
     record { label-fits = fits; stamp-fits = bears .0; whole = bears .1; only-bits = bears .2; text = refl } in
     rw (a-row-of-the-form-is-taken _ n (r .0) (r .1) noSample form refl)
 
-a-step : (n : ℕ) (s : State) (r : Row) → 0 < n → answerTo s n (r .0) (r .1) ≡ stepOf s (r .0) (r .1)
+pub a-step : (n : ℕ) (s : State) (r : Row) → 0 < n → answerTo s n (r .0) (r .1) ≡ stepOf s (r .0) (r .1)
 unfolding answerTo
 a-step n s r later = rw (ne-eqb n 0 (λ e. omega arith))
 
 -- The label that is due behind it, and its line.
-next-due : (n : ℕ) → n ≤ greatest → nextDue (Label n) ≡ dueBehind (n + 1)
+pub next-due : (n : ℕ) → n ≤ greatest → nextDue (Label n) ≡ dueBehind (n + 1)
 next-due n fits =
     either (ltb n greatest)
     (λ t. let e : n + 1 ≤ greatest = omega (arith, ltb-true n greatest t) in rw (t, le-leb (n + 1) greatest e))
     (λ t. let e : greatest < n + 1 = omega (arith, ltb-false n greatest t) in rw (t, lt-leb (n + 1) greatest e))
 
-is-due : (n : ℕ) → n ≤ greatest → dueBehind n ≡ Label n
+pub is-due : (n : ℕ) → n ≤ greatest → dueBehind n ≡ Label n
 is-due n fits = rw (le-leb n greatest fits)
 
 pub due-line : (n : ℕ) → n ≤ greatest + 1 → lineOf (dueBehind n) ≡ n + 2
@@ -277,7 +277,7 @@ header-clean : NoCr traceHeader
 unfolding traceHeader headerNames sensorNames joinedByCommas clean
 header-clean = tested traceHeader refl
 
-rows-of-trace : (samples : List Row) → rowsOf (traceBearing samples) ≡ rowsFor samples
+pub rows-of-trace : (samples : List Row) → rowsOf (traceBearing samples) ≡ rowsFor samples
 unfolding traceBearing traceOf
 rows-of-trace samples = cut-again (rowsFor samples) (header-clean, rows-clean 0 samples)
 

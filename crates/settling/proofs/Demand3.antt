@@ -41,18 +41,18 @@ allToldBy s (r ∷ rs) = toldBy s r ∷ allToldBy (next s r) rs
 
 -- ---- One sample
 
-same : (a b : Bool) → T (Bool·beq a b) → a ≡ b
+pub same : (a b : Bool) → T (Bool·beq a b) → a ≡ b
 same true true h = refl
 same true false h = absurd h
 same false true h = absurd h
 same false false h = refl
 
 module _ (down : Bool) (s : State) (r : Row) (rs : List Row) (h : Held down s (r ∷ rs)) where
-  goes-on : Held down (next s r) rs
+  pub goes-on : Held down (next s r) rs
   unfolding held
   goes-on = and-yes (isTaken s r && handleSays down s r) (held down (next s r) rs) h .1
 
-  taken-and-says : T (isTaken s r) × T (handleSays down s r)
+  pub taken-and-says : T (isTaken s r) × T (handleSays down s r)
   unfolding held
   taken-and-says = and-yes (isTaken s r) (handleSays down s r) (and-yes (isTaken s r && handleSays down s r) (held down (next s r) rs) h .0)
 
