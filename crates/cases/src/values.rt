@@ -1,8 +1,14 @@
-// A dump and its values: NAME.vcd, taken back by `readback`, must give NAME.csv. What is no dump must be refused behind those rows.
+// A dump and its values: NAME.vcd, taken back by `readback`, must give NAME.csv, and so must its sheet by `sheets`. What is no dump must
+// be refused behind those rows.
+ghost use Prim.Native.Nat.{_<_};
 use crate::files;
 use crate::parts;
 use readback::Reader;
 use readback::Took;
+use sheets::Sheet;
+
+// What the buffer for the values holds before the first call: no moment has it.
+const LENT: u8 = 2;
 
 // Whether a case is as stored, and ends in this refusal: 0, or 9 for what is no dump.
 pub(crate) fn case(name: &[u8], refusal: u8) -> bool {
@@ -15,7 +21,7 @@ fn run(name: &[u8], refusal: u8, small: bool) -> bool {
     let mut stored = files::room();
     let n = files::read(name, b".vcd", &mut dump);
     let m = files::read(name, b".csv", &mut stored);
-    runs(&dump[..n], refusal, small, &stored[..m])
+    runs(&dump[..n], refusal, small, &stored[..m]) & fills(&dump[..n], refusal, small, &stored[..m])
 }
 
 // The header of what is stored.
@@ -37,33 +43,87 @@ fn row(took: Took, stored: &[u8], at: usize) -> usize {
     parts::stored_to(stored, at, 0, &out, n)
 }
 
-// Takes in what it uses of a part.
-fn take(reader: Reader, part: &[u8]) -> Took {
-    let mut values = [0u8; 26];
-    reader.take(part, &mut values)
+// The value of a wire in the row of what is stored that ends at a place. It ends in CRLF, and behind each other wire's value comes a
+// comma.
+fn value_at(stored: &[u8], at: usize, wire: usize) -> u8
+    requires { ⌜ wire < 26 ⌝ }
+{
+    let back = 53 - 2 * wire;
+    if at < back {
+        return LENT;
+    }
+    if stored.len() <= at - back {
+        return LENT;
+    }
+    std::num::wrapping_sub_u8(stored[at - back], b'0')
+}
+
+// Whether the buffer holds the values of the row that ends at a place, or what was lent where there is no row before it.
+fn shows(stored: &[u8], first: usize, at: usize, values: &[u8]) -> bool {
+    if at == first {
+        return check::same(values, &[LENT; 26]);
+    }
+    let mut told = [LENT; 26];
+    let mut i = 0;
+    while i < 26 {
+        told[i] = value_at(stored, at, i);
+        i += 1;
+    }
+    check::same(values, &told)
 }
 
 // The end of the dump: the row of the last moment must be all that is left.
-fn ends(reader: Reader, refusal: u8, stored: &[u8], at: usize) -> bool {
-    let mut values = [0u8; 26];
-    let took = reader.finish(&mut values);
-    (took.refusal == refusal) & (row(took, stored, at) == stored.len())
+fn ends(
+    reader: Reader,
+    refusal: u8,
+    stored: &[u8],
+    first: usize,
+    at: usize,
+    values: &mut [u8],
+) -> bool {
+    let took = reader.finish(values);
+    let end = row(took, stored, at);
+    (took.refusal == refusal) & (end == stored.len()) & shows(stored, first, end, values)
 }
 
-// A whole dump: whether what is written is as stored.
+// A whole dump, moment by moment: whether what is written, and what the lent buffer holds after each call, are as stored.
 fn runs(dump: &[u8], refusal: u8, small: bool, stored: &[u8]) -> bool {
+    let mut values = [LENT; 26];
     let mut reader = Reader::new();
+    let first = header(stored);
+    let mut at = first;
+    let mut from = 0;
+    while from < dump.len() {
+        let end = parts::end(from, small, dump.len());
+        let took = reader.take(&dump[from..end], &mut values);
+        at = row(took, stored, at);
+        if !shows(stored, first, at, &values) {
+            return false;
+        }
+        if took.refusal != 0 {
+            return (took.refusal == refusal) & (at == stored.len());
+        }
+        reader = took.reader;
+        from = parts::after(from, took.used, dump.len());
+    }
+    (from == dump.len()) & ends(reader, refusal, stored, first, at, &mut values)
+}
+
+// The same part by part, into an output buffer for two rows.
+fn fills(dump: &[u8], refusal: u8, small: bool, stored: &[u8]) -> bool {
+    let mut out = [0u8; 2 * sheets::ROOM];
+    let mut sheet = Sheet::new();
     let mut at = header(stored);
     let mut from = 0;
     while from < dump.len() {
         let end = parts::end(from, small, dump.len());
-        let took = take(reader, &dump[from..end]);
-        if took.refusal != 0 {
-            return (took.refusal == refusal) & (at == stored.len());
-        }
-        at = row(took, stored, at);
-        reader = took.reader;
+        let took = sheet.fill(&dump[from..end], &mut out);
+        at = parts::stored_to(stored, at, took.refusal, &out, took.written);
+        sheet = took.sheet;
         from = parts::after(from, took.used, dump.len());
     }
-    (from == dump.len()) & ends(reader, refusal, stored, at)
+    let last = sheet.finish(&mut out);
+    at = parts::stored_to(stored, at, last.refusal, &out, last.written);
+    sheet = last.sheet;
+    (from == dump.len()) & (at == stored.len()) & (sheet.nine == (refusal == 9))
 }
