@@ -1,5 +1,5 @@
--- The reader over calls: however a dump is cut into parts, with any buffers of 26 bytes, the calls of `take` and the call of `finish` give the
--- moments of the whole reading, each with its values in the buffer of its call, and 9 exactly where the bytes are no dump.
+-- The reader over calls: however a dump is cut into parts, with any buffers of 26 bytes, the calls of `take` and the call of `finish`
+-- give the moments of the whole reading, each with its values in the buffer of its call, and 9 exactly where the bytes are no dump.
 -- Assumes nothing.
 use Prim.Native.Nat.{ℕ, zero, suc, _+_, _<_, _≤_}
 use native.Mathlib.Omega.{arith}
@@ -65,7 +65,8 @@ read-from (b ∷ bytes) r = by-tests (isBad (byteOf r b .place)) (begins r b) re
       ∙ answered-ahead (momentOf r) (givenFrom (byteOf r b) bytes .0) (givenFrom (byteOf r b) bytes .1)
   by-tests false false e others = others
 
--- The moments in front of the refused byte, and 0 or 9, are the reading's own answer: a dump gives its moments, and what is no dump is refused.
+-- The moments in front of the refused byte, and 0 or 9, are the reading's own answer: a dump gives its moments, and what is no dump is
+-- refused.
 pub read-is-given : (bytes : List ℕ) → readOf bytes ≡ answered (givenOf bytes)
 unfolding readOf givenOf
 read-is-given bytes = read-from bytes newReader

@@ -1,7 +1,7 @@
 -- A call of `take` takes in what the rest of the reading lacks, whatever follows the part: the whole dump is read from the answer's
 -- reader on, behind the moment that the call gives. By induction over the bytes of the part. `finish` is the same at the end.
 -- Assumes nothing.
-use Prim.Native.Nat.{ℕ, suc, _+_, _<_, _≤_}
+use Prim.Native.Nat.{ℕ, suc, _+_}
 use native.Mathlib.Omega.{arith}
 use mathlib.Core.Bool.{Bool, true, false, cond, true≢false, false≢true}
 use mathlib.Core.List.{List, [], _∷_, _++_, append-assoc}
@@ -45,8 +45,8 @@ abbrev pub Plain : Reader → List ℕ → Type 0
 Plain r [] = Unit {0}
 Plain r (b ∷ bytes) = (isBad (byteOf r b .place) ≡ false) × (begins r b ≡ false) × Plain (byteOf r b) bytes
 
--- What a part from some place on comes to is one of three, with `used` bytes used before: plain bytes alone; or plain bytes and one that begins
--- a moment, with others behind it; or the same with one that no dump has there.
+-- What a part from some place on comes to is one of three, with `used` bytes used before: plain bytes alone; or plain bytes and one that
+-- begins a moment, with others behind it; or the same with one that no dump has there.
 pub data Comes (start : Reader) (values : List ℕ) (r : Reader) (used : ℕ) : List ℕ → Took × List ℕ → Type 0 where
   to-its-end : (bytes : List ℕ) (n : ℕ) → n ≡ used + length bytes → Plain r bytes
       → Comes start values r used bytes (goesOn (through r bytes) n, values)

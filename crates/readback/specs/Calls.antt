@@ -1,5 +1,5 @@
--- Request K2: the reader over calls. What an answer of a call says of the reading that it is a part of, and what all calls give for a dump that
--- is cut into parts, each call with a buffer of its own for the values.
+-- Request K2: the reader over calls. What an answer of a call says of the reading that it is a part of, and what all calls give for a
+-- dump that is cut into parts, each call with a buffer of its own for the values.
 -- Assumes nothing.
 use Prim.Native.Nat.{ℕ, zero, suc, _+_, _<_, _≤_}
 use mathlib.Core.Bool.{Bool, cond}
@@ -97,8 +97,8 @@ abbrev pub heard : Took × List ℕ → Given → Given
 heard answer others =
     cond (eqb (answer .0 .refusal) 0) (cond (answer .0 .given) (ahead (momentIn answer) others) others) ([], answer .0 .refusal)
 
--- What at most so many turns give: a call of `take` for what is left of the first part, or the next part where nothing is left of it, or the
--- call of `finish` where there is none. `lends` has the values' buffer of each turn.
+-- What at most so many turns give: a call of `take` for what is left of the first part, or the next part where nothing is left of it, or
+-- the call of `finish` where there is none. `lends` has the values' buffer of each turn.
 unfoldable pub inTurns : (ℕ → List ℕ) → ℕ → Reader → List (List ℕ) → Given
 inTurns lends zero r parts = ([], 0)
 inTurns lends (suc turns) r [] = heard (finishOf r (lends turns)) ([], 0)

@@ -1,5 +1,5 @@
--- What a call of the reader comes to for a sheet that is being filled: the part is used up; or a row is written, and the rest is taken in behind it; or a
--- 9 has ended the reading.
+-- What a call of the reader comes to for a sheet that is being filled: the part is used up; or a row is written, and the rest is taken in
+-- behind it; or a 9 has ended the reading.
 -- Assumes nothing.
 use Prim.Native.Nat.{ℕ, suc, _+_, _<_, _≤_}
 use native.Mathlib.Omega.{arith}

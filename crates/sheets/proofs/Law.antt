@@ -1,25 +1,25 @@
--- What is written of a dump by parts is the sheet of the whole: a call of `fill` writes what was to come, and the rest is still to come; `finish` gives
--- all that was to come; after a 9 nothing comes. By induction over the bytes.
+-- What is written of a dump by parts is the sheet of the whole: a call of `fill` writes what was to come, and the rest is still to come;
+-- `finish` gives all that was to come; after a 9 nothing comes. By induction over the bytes.
 -- Assumes nothing.
-use Prim.Native.Nat.{ℕ, zero, suc, _+_, _%_, _^_, _<_, _≤_}
+use Prim.Native.Nat.{ℕ, zero, suc, _+_, _<_, _≤_}
 use native.Mathlib.Omega.{arith}
-use mathlib.Core.Bool.{Bool, true, false, cond, not}
+use mathlib.Core.Bool.{Bool, true, false, cond}
 use mathlib.Core.List.{List, [], _∷_, _++_, append-assoc, append-nil}
 use mathlib.Core.Path.{_≡_, refl, sym, ap, _∙_}
 use borrow.Author.Tests.{le-ltb}
-use lib.Dec.{eqb, ltb}
-use lib.ListN.{length, take, drop, length-append, length-drop}
-use lib.Seq.{take-append-seam, drop-append-seam, drop-length}
+use lib.Dec.{ltb}
+use lib.ListN.{length, drop, length-append, length-drop}
+use lib.Seq.{take-append-seam, drop-append-seam}
 use Rattle.readback.specs.declared.Reader.{Reader}
-use Rattle.readback.specs.Bytes.{newReader, byteOf}
+use Rattle.readback.specs.Bytes.{byteOf}
 use Rattle.common.specs.Answers.{gives}
 use Rattle.dump.specs.Dumps.{Moment}
 use Rattle.readback.specs.Reads.{isBad, complete, begins, momentOf, readOf}
-use Rattle.readback.specs.Calls.{Given, ahead, givenFrom, givenOf, readUpTo}
+use Rattle.readback.specs.Calls.{Given, ahead, givenFrom, givenOf}
 use Rattle.readback.proofs.Calls.{dump-gives}
 use Rattle.sheets.specs.declared.Sheet.{Sheet}
 use Rattle.sheets.specs.declared.Took.{Took}
-use Rattle.sheets.specs.Sheets.{rowRoom, sheetHeader, sheetRows, sheetOf, linesIn, lineOf}
+use Rattle.sheets.specs.Sheets.{rowRoom, sheetHeader, sheetRows, sheetOf}
 use Rattle.sheets.specs.Runs.{
   newSheet,
   oneMore,
@@ -214,8 +214,8 @@ module _ (lends : ℕ → List ℕ) (rooms : AllRoom lends) where
       (omega (arith, enough, fewer, right .forth (omega arith), right .inside)))
       ∙ sym (right .same (inputOf parts))
 
-  -- However the input is cut into parts, with any output buffers that have room for a row: from any sheet under way, what is written in all and the
-  -- sheet that is left are what was to come.
+  -- However the input is cut into parts, with any output buffers that have room for a row: from any sheet under way, what is written in
+  -- all and the sheet that is left are what was to come.
   pub by-parts-from : (s : Sheet) (parts : List (List ℕ)) → inAll lends s parts ≡ toCome s (inputOf parts)
   by-parts-from s parts = in-turns (turnsFor parts) s parts (omega arith)
 

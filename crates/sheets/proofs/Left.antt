@@ -1,12 +1,12 @@
--- The sheet that a whole input leaves: a 9 has ended it exactly where the input is no dump, its line is the one of the byte that was refused, and its rows
--- are counted. By induction over the bytes.
+-- The sheet that a whole input leaves: a 9 has ended it exactly where the input is no dump, its line is the one of the byte that was
+-- refused, and its rows are counted. By induction over the bytes.
 -- Assumes nothing.
 use Prim.Native.Nat.{ℕ, suc, _+_, _%_, _^_, _<_}
 use native.Mathlib.Omega.{arith}
 use mathlib.Core.Bool.{Bool, true, false, cond, not, false≢true}
 use mathlib.Core.List.{List, [], _∷_}
 use mathlib.Core.Logic.{_↔_}
-use mathlib.Core.Option.{Option, none, some}
+use mathlib.Core.Option.{none, some}
 use mathlib.Core.Path.{_≡_, refl, sym, ap, _∙_}
 use lib.Dec.{eqb}
 use lib.ListN.{length, take}
@@ -72,7 +72,8 @@ whole-left : (bytes : List ℕ) → Left newReader 1 0 bytes (toCome newSheet by
 unfolding toCome newSheet
 whole-left bytes = left-over bytes newReader 1 0 (omega arith)
 
--- The line that is left is the one up to which the input was read, and the rows are those of the moments that were given; both modulo 2 ^ 64.
+-- The line that is left is the one up to which the input was read, and the rows are those of the moments that were given; both modulo 2 ^
+-- 64.
 pub left-line : (bytes : List ℕ) → toCome newSheet bytes .1 .line ≡ lineOf bytes % 2 ^ 64
 unfolding lineOf
 left-line bytes =

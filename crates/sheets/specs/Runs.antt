@@ -1,7 +1,7 @@
 -- The sheet of a dump by parts: what is still to come of a sheet under way, and what taking in a part into one output buffer gives.
 -- Assumes nothing.
 use Prim.Native.Nat.{ℕ, zero, suc, _+_, _%_, _^_, _≤_, _<_}
-use mathlib.Core.Bool.{Bool, true, false, cond}
+use mathlib.Core.Bool.{true, false, cond}
 use mathlib.Core.List.{List, [], _∷_, _++_}
 use mathlib.Core.Path.{_≡_}
 use lib.Dec.{eqb, ltb}
@@ -73,8 +73,8 @@ toCome s bytes = cond (s .nine) ([], s) (comes s bytes)
 
 -- ---- A call
 
--- A part is taken in until it is used up, a 9 has ended the reading, or less than the room for a row is left of so many bytes: the sheet then, how many
--- bytes are used, and the text that is written. (A 9 uses the part up: nothing is read after it.)
+-- A part is taken in until it is used up, a 9 has ended the reading, or less than the room for a row is left of so many bytes: the sheet
+-- then, how many bytes are used, and the text that is written. (A 9 uses the part up: nothing is read after it.)
 abbrev pub Filling : Type 0
 Filling = Sheet × ℕ × List ℕ
 
@@ -108,7 +108,8 @@ finishOf s out =
     (cond (s .nine) (filled (s, 0, []) out)
     (cond (complete (s .reader)) (filled (withRow s, 0, rowOf (s .reader)) out) (filled (over s, 0, []) out)))
 
--- What a call of the reader on bytes comes to for a sheet: the sheet behind what is used of them, and the moment's time where one is given.
+-- What a call of the reader on bytes comes to for a sheet: the sheet behind what is used of them, and the moment's time where one is
+-- given.
 abbrev pub turnBy : Sheet → List ℕ → ReaderTook → Turn
 turnBy s bytes took =
     cond (eqb (took .refusal) 0)
@@ -131,8 +132,8 @@ turnBy s bytes took =
 abbrev pub wrote : Took × List ℕ → List ℕ
 wrote answer = take (answer .0 .written) (answer .1)
 
--- Nothing is refused; of a part that is not empty some is used; what is written stands in the output buffer, whose bytes past it stay; and what was
--- to come is what is written and what is still to come.
+-- Nothing is refused; of a part that is not empty some is used; what is written stands in the output buffer, whose bytes past it stay;
+-- and what was to come is what is written and what is still to come.
 pub record Filled (s : Sheet) (part out : List ℕ) (answer : Took × List ℕ) : Type 0 where
   pub taken : answer .0 .refusal ≡ 0
   pub inside : answer .0 .used ≤ length part
@@ -156,8 +157,8 @@ abbrev pub inputOf : List (List ℕ) → List ℕ
 inputOf [] = []
 inputOf (part ∷ parts) = part ++ inputOf parts
 
--- What at most so many turns come to: a call of `fill` for what is left of the first part, or the next part where nothing is left of it, or the
--- call of `finish` where there is none. `lends` has the output buffer of each turn.
+-- What at most so many turns come to: a call of `fill` for what is left of the first part, or the next part where nothing is left of it,
+-- or the call of `finish` where there is none. `lends` has the output buffer of each turn.
 unfoldable pub inTurns : (ℕ → List ℕ) → ℕ → Sheet → List (List ℕ) → Outcome
 inTurns lends zero s parts = ([], s)
 inTurns lends (suc turns) s [] = (wrote (finishOf s (lends turns)), finishOf s (lends turns) .0 .sheet)

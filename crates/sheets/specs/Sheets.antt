@@ -1,5 +1,5 @@
--- Request K2: the values of a dump as CSV by RFC 4180: a header, and a row for each time that is written; and the whole run of the program `sheet`,
--- from all bytes of its input to all bytes of its output, a bad dump among them.
+-- Request K2: the values of a dump as CSV by RFC 4180: a header, and a row for each time that is written; and the whole run of the
+-- program `sheet`, from all bytes of its input to all bytes of its output, a bad dump among them.
 -- Assumes nothing.
 use Prim.Native.Nat.{ℕ, suc, _+_, _*_}
 use mathlib.Core.Bool.{Bool, cond}
@@ -51,8 +51,8 @@ sheetRows (m ∷ ms) = sheetRow (m .time) (m .values) ++ sheetRows ms
 
 -- ---- The whole run
 
--- What is written for the bytes of the input: the header in every case, and the rows of the moments that are complete in front of the byte that no
--- dump has there, or of the end.
+-- What is written for the bytes of the input: the header in every case, and the rows of the moments that are complete in front of the
+-- byte that no dump has there, or of the end.
 unfoldable pub sheetOf : List ℕ → List ℕ
 sheetOf bytes = sheetHeader ++ sheetRows (givenOf bytes .0)
 

@@ -1,7 +1,7 @@
-// A whole run of the program `sheet` (request K2): a dump in, its values as CSV by RFC 4180 out, a header and a row for each time that is written.
-// The rule is specs/Sheets.antt, from all bytes of the input to all bytes of the output, and specs/Runs.antt, the same by parts. The reader is
-// the crate `readback`'s: here each moment that it gives is written, and the line is counted, so that a program can name the one that is refused.
-// proofs/Law.antt says that however the input is cut, what is written in all is the sheet of the whole.
+// A whole run of the program `sheet` (request K2): a dump in, its values as CSV by RFC 4180 out, a header and a row for each time that is
+// written. The rule is specs/Sheets.antt, from all bytes of the input to all bytes of the output, and specs/Runs.antt, the same by parts.
+// The reader is the crate `readback`'s: here each moment that it gives is written, and the line is counted, so that a program can name
+// the one that is refused. proofs/Law.antt says that however the input is cut, what is written in all is the sheet of the whole.
 ghost use mathlib.Core.Path.{_≡_};
 ghost use mathlib.Core.Bool.{false};
 ghost use mathlib.Core.List.{[]};
@@ -20,8 +20,8 @@ pub mod rows;
 // A row has at most so many bytes: 20 of its time, two of each wire and two of its end.
 pub const ROOM: usize = 22 + 2 * WIRES;
 
-// A sheet under way: the reader of the dump, the line that is being read, how many rows are written, and whether a 9 has ended it. Lines and rows
-// are counted modulo 2^64.
+// A sheet under way: the reader of the dump, the line that is being read, how many rows are written, and whether a 9 has ended it. Lines
+// and rows are counted modulo 2^64.
 pub struct Sheet {
     pub reader: Reader,
     pub line: u64,
@@ -58,9 +58,9 @@ impl Sheet {
         }
     }
 
-    // Takes in a part of a dump and writes the rows of the moments that are complete in it, each behind the one before it, until the part is used
-    // up, a 9 has ended the reading, or less than the room for a row is left. The output buffer must have room for a row; the rest of
-    // the part is for the next call. After a 9 the rest gives nothing.
+    // Takes in a part of a dump and writes the rows of the moments that are complete in it, each behind the one before it, until the part
+    // is used up, a 9 has ended the reading, or less than the room for a row is left. The output buffer must have room for a row; the
+    // rest of the part is for the next call. After a 9 the rest gives nothing.
     pub fn fill(self, part: &[u8], out: &mut [u8]) -> Took
         ensures { λ r. ⌜ (r, now (out .exit)) ≡ fillOf self (now (part .entry)) (now (out .entry)) ⌝ }
         ensures { λ r. ⌜ (r .used ≤ length (now (part .entry))) × (r .written ≤ length (now (out .entry))) ⌝ }

@@ -1,4 +1,5 @@
-// The texts of a sheet: its header, and the row of a time. The rule is specs/Sheets.antt. A row is put together in a line of its own and then handed to the lent one if there is room for it.
+// The texts of a sheet: its header, and the row of a time. The rule is specs/Sheets.antt. A row is put together in a line of its own and
+// then handed to the lent one if there is room for it.
 ghost use mathlib.Core.Path.{_≡_};
 ghost use mathlib.Core.List.{_∷_};
 ghost use Prim.Native.Nat.{_+_, _*_, _≤_};
