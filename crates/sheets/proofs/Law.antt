@@ -5,8 +5,9 @@ use Prim.Native.Nat.{ℕ, zero, suc, _+_, _<_, _≤_}
 use native.Mathlib.Omega.{arith}
 use mathlib.Core.Bool.{Bool, true, false, cond}
 use mathlib.Core.List.{List, [], _∷_, _++_, append-assoc, append-nil}
+use mathlib.Core.Logic.{_↔_}
 use mathlib.Core.Path.{_≡_, refl, sym, ap, _∙_}
-use borrow.Author.Tests.{le-ltb}
+use borrow.Author.Tests.{lt-ltb, le-ltb, ltb-true, ltb-false}
 use lib.Dec.{ltb}
 use lib.ListN.{length, drop, length-append, length-drop}
 use lib.Seq.{take-append-seam, drop-append-seam}
@@ -165,6 +166,66 @@ fill-right s part out room =
         let f = fillFrom (length out) (under r line rows) 0 [] part in
         let k = fills (length out) part r line rows 0 [] in
         as-filled (under r line rows) part out f (k .taken) (k .count ∙ omega arith) (k .inside) (k .forth) (k .same)
+
+-- Something is left of the part only where no room is left for a row.
+stops-full : (size : ℕ) (bytes : List ℕ) (s : Sheet) (used : ℕ) (text : List ℕ) → fillFrom size s used text bytes .1 < used + length bytes
+    → size < length (fillFrom size s used text bytes .2) + rowRoom
+unfolding fillFrom
+stops-full size [] s used text = λ h. absurd (omega arith)
+stops-full size (b ∷ bytes) s used text =
+    by-tests (isBad (byteOf (s .reader) b .place)) (begins (s .reader) b) (ltb size (length (text ++ rowOf (s .reader)) + rowRoom)) refl
+    (stops-full size bytes (withRow (reads s b)) (suc used) (text ++ rowOf (s .reader)))
+    (stops-full size bytes (reads s b) (suc used) text)
+  where
+    row : List ℕ
+    row = text ++ rowOf (s .reader)
+
+    by-row : Filling
+    by-row = fillFrom size (withRow (reads s b)) (suc used) row bytes
+
+    plain : Filling
+    plain = fillFrom size (reads s b) (suc used) text bytes
+
+    all : Bool → Bool → Bool → Filling
+    all x y z = cond x (over s, used + length (b ∷ bytes), text) (cond y (cond z (withRow (reads s b), suc used, row) by-row) plain)
+
+    by-tests : (x y z : Bool) → ltb size (length row + rowRoom) ≡ z
+        → (by-row .1 < suc used + length bytes → size < length (by-row .2) + rowRoom)
+        → (plain .1 < suc used + length bytes → size < length (plain .2) + rowRoom)
+        → all x y z .1 < used + length (b ∷ bytes)
+        → size < length (all x y z .2) + rowRoom
+    by-tests true y z e k l h = absurd (omega arith)
+    by-tests false true true e k l h = ltb-true size (length row + rowRoom) e
+    by-tests false true false e k l h = k (omega arith)
+    by-tests false false z e k l h = l (omega arith)
+
+pub fill-ends : (s : Sheet) (part out : List ℕ) → rowRoom ≤ length out → fillOf s part out .0 .used < length part
+    → length out < fillOf s part out .0 .written + rowRoom
+unfolding fillOf
+fill-ends s part out room =
+    rw (has-room s out (cond (s .nine) (filled (s, length part, []) out) (filled (fillFrom (length out) s 0 [] part) out)) room) (by-nine (s .nine))
+  where
+    by-nine : (t : Bool)
+        → cond t (filled (s, length part, []) out) (filled (fillFrom (length out) s 0 [] part) out) .0 .used < length part
+        → length out < cond t (filled (s, length part, []) out) (filled (fillFrom (length out) s 0 [] part) out) .0 .written + rowRoom
+    by-nine true h = absurd (omega arith)
+    by-nine false h = stops-full (length out) part s 0 [] (omega arith)
+
+-- Refusal 8 is exactly for an output buffer that has no room for a row, and then all is as it was.
+pub refused-out : (s : Sheet) (part out : List ℕ) → length out < rowRoom
+    → fillOf s part out ≡ (record { sheet = s; used = 0; written = 0; refusal = 8 }, out)
+unfolding fillOf
+refused-out s part out h = rw (lt-ltb (length out) rowRoom h)
+
+pub eight-exactly : (s : Sheet) (part out : List ℕ) → (fillOf s part out .0 .refusal ≡ 8) ↔ (length out < rowRoom)
+eight-exactly s part out =
+    (by-room (ltb (length out) rowRoom) refl, λ h. ap (λ (answer : Took × List ℕ). answer .0 .refusal) (refused-out s part out h))
+  where
+    by-room : (t : Bool) → ltb (length out) rowRoom ≡ t → fillOf s part out .0 .refusal ≡ 8 → length out < rowRoom
+    by-room true e h = ltb-true (length out) rowRoom e
+    by-room false e h =
+        let none : fillOf s part out .0 .refusal ≡ 0 = fill-right s part out (ltb-false (length out) rowRoom e) .taken in
+        absurd (omega (arith, none, h))
 
 -- ---- The end of the input
 
