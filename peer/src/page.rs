@@ -4,7 +4,7 @@
 use crate::rig::{Doors, Gears};
 use crate::rules::Rules;
 use crate::svg::{number, numbers, read, Node};
-use crate::wall::{place_words, possible, word, Entry, DOORS, FACTS, GEARS, PLACES};
+use crate::wall::{aim, place_words, possible, rows, table_number, word, Entry, DOORS, FACTS, GEARS, PLACES};
 
 /// What disagrees, and at which place, if it is of one.
 #[derive(Clone, PartialEq, Eq, Debug)]
@@ -78,6 +78,9 @@ enum Head {
 #[derive(Default)]
 struct Page {
     heads: Vec<(Head, Point)>,
+    /// What is said beside a handle that it aims at, and of the table's number.
+    aims: Vec<(Gears, Point)>,
+    numbers: Vec<(u64, Point)>,
     places: Vec<Drawn>,
     style: String,
 }
@@ -123,8 +126,10 @@ impl Page {
         let mut shown = Page::default();
         shown.outside(&root, ZERO)?;
         let areas = shown.places.iter().filter_map(|place| place.area);
-        let mut points =
-            shown.heads.iter().map(|head| head.1).chain(areas.flat_map(|area| [area.low, area.high]));
+        let texts = shown.heads.iter().map(|head| head.1);
+        let texts = texts.chain(shown.aims.iter().map(|aim| aim.1));
+        let texts = texts.chain(shown.numbers.iter().map(|number| number.1));
+        let mut points = texts.chain(areas.flat_map(|area| [area.low, area.high]));
         match points.find(|&p| !sheet.holds(p)) {
             Some(p) => Err(format!("something stands at {} {}, off the page", p.x, p.y)),
             None => Ok(shown),
@@ -152,6 +157,10 @@ impl Page {
                     let at = shifted(origin, moved(node, at, true)?);
                     if node.has_class("handle") || node.has_class("head") {
                         self.heads.push((head(node)?, at));
+                    } else if node.has_class("aim") {
+                        self.aims.push((told_after(node, "aims at ", gears_word)?, at));
+                    } else if node.has_class("table") {
+                        self.numbers.push((told_after(node, "table number ", plain_number)?, at));
                     } else if let Some(class) = INSIDE.iter().find(|class| node.has_class(class)) {
                         return Err(format!("a text of class {class} stands in no place: {}", node.words()));
                     }
@@ -274,6 +283,18 @@ fn head(node: &Node) -> Result<Head, String> {
             .or_else(|| gears_word(text.strip_prefix("gears ").unwrap_or(text)).map(Head::Gears)),
     };
     known.ok_or_else(|| format!("the heading '{words}' is not understood"))
+}
+
+/// A number in decimal, with nothing before it that could be left out.
+fn plain_number(text: &str) -> Option<u64> {
+    text.parse().ok().filter(|n: &u64| n.to_string() == text)
+}
+
+/// What a text tells behind these words.
+fn told_after<T>(node: &Node, before: &str, known: fn(&str) -> Option<T>) -> Result<T, String> {
+    let words = node.words();
+    let told = words.strip_prefix(before).and_then(known);
+    told.ok_or_else(|| format!("'{words}' is not understood"))
 }
 
 /// What a place tells of doors and gears: nothing for `stays`, else each with whether it is told as a move.
@@ -434,6 +455,33 @@ impl Page {
     }
 }
 
+impl Page {
+    /// Beside each handle, at its height, stands what it aims at, and nowhere else.
+    fn aimed(&self, r: &Rules) -> Option<String> {
+        for (head, p) in &self.heads {
+            let Head::Handle(down) = *head else { continue };
+            let handle = if down { "DOWN" } else { "UP" };
+            let beside = self.aims.iter().filter(|(_, q)| q.y == p.y && q.x > p.x);
+            match beside.map(|told| told.0).collect::<Vec<_>>()[..] {
+                [told] if Some(told) == aim(r, down) => {}
+                [told] => return Some(format!("handle {handle} does not aim at {}", word(told))),
+                ref told => return Some(format!("{} aims beside handle {handle}, not 1", told.len())),
+            }
+        }
+        (self.aims.len() > 2).then(|| format!("{} aims, not 2", self.aims.len()))
+    }
+
+    /// The table's number is there once, and is that of the peer's own sequence.
+    fn numbered(&self, r: &Rules) -> Option<String> {
+        let own = table_number(&rows(r));
+        match self.numbers[..] {
+            [(told, _)] if told == own => None,
+            [(told, _)] => Some(format!("the table number is {told}, and the table's is {own}")),
+            ref told => Some(format!("{} table numbers, not 1", told.len())),
+        }
+    }
+}
+
 /// The nearest, if there is just one.
 fn nearest<T: Copy>(all: &[(T, f64)]) -> Option<T> {
     let least = all.iter().map(|one| one.1).fold(f64::INFINITY, f64::min);
@@ -506,7 +554,8 @@ pub fn check(r: &Rules, page: &[u8]) -> Vec<Wrong> {
     };
     let mut wrong = Vec::new();
     let mut times = [0; PLACES];
-    wrong.extend(page.order().map(|reason| Wrong { place: None, reason }));
+    let of_all = [page.order(), page.aimed(r), page.numbered(r)];
+    wrong.extend(of_all.into_iter().flatten().map(|reason| Wrong { place: None, reason }));
     for drawn in &page.places {
         let (place, read) = (page.stands(drawn), page.told(drawn));
         let (place, read) = match (place, read) {

@@ -96,6 +96,7 @@ pub enum Slip {
     // What its page says
     PageNoGrey, PageGreyMoved, PageNoElse, PageThenElse, PageFactUnnamed, PageFactTooMany, PageOtherFact,
     PageMovesKeeps, PageStaysSpelt, PageColumns, PageRows, PageHandles, PageNumbers, PageLacks(usize), PageTwice(usize),
+    PageAims, PageNoTableNumber, PageTableNumberUnweighed,
 }
 
 /// The highest number of each sort of item in an image.
@@ -650,6 +651,9 @@ pub fn wall_faults() -> Vec<(String, Rules)> {
         ("page_lacks_first_place", PageLacks(0)),
         ("page_lacks_last_place", PageLacks(31)),
         ("page_has_a_place_twice", PageTwice(9)),
+        ("page_aims_swapped", PageAims),
+        ("page_without_table_number", PageNoTableNumber),
+        ("page_table_number_unweighed", PageTableNumberUnweighed),
     ]));
     all
 }

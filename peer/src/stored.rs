@@ -295,7 +295,7 @@ pub struct Data {
     pub words: Vec<Vector>,
 }
 
-/// What is stored in a folder `data`.
+/// What is stored in a folder `data`; of each kind there must be some.
 pub fn read(data: &Path) -> io::Result<Data> {
     let mut all = Data::default();
     for folder in ["traces", "dumps", "images", "resumed"] {
@@ -316,5 +316,10 @@ pub fn read(data: &Path) -> io::Result<Data> {
             }
         }
     }
-    Ok(all)
+    let [rows, dumps, images] = [&all.rows, &all.dumps, &all.images].map(Vec::len);
+    let [sheets, onwards, words] = [all.sheets.len(), all.onwards.len(), all.words.len()];
+    match [rows, dumps, images, sheets, onwards, words].contains(&0) {
+        true => Err(io::Error::other(format!("{} lacks all cases of some kind", data.display()))),
+        false => Ok(all),
+    }
 }

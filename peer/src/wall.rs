@@ -131,6 +131,19 @@ pub fn rows(r: &Rules) -> Vec<Row> {
     (0..ENTRIES).map(row).collect()
 }
 
+/// The table as one number, which an exchange of two entries changes: the sum of each entry's number and one, times
+/// four times the number of its next doors and that of its next gears.
+pub fn table_number(rows: &[Row]) -> u64 {
+    let entry = |row: &Row| 4 * row.next.0 as u64 + row.next.1 as u64;
+    rows.iter().zip(1..).map(|(row, place)| place * entry(row)).sum()
+}
+
+/// What a handle aims at: the gears at which doors that are CLOSED stay so, whatever is seen.
+pub fn aim(r: &Rules, down: bool) -> Option<Gears> {
+    let entry = |gears, n: usize| Entry { down, doors: Doors::Closed, gears, facts: Entry::of(n).facts };
+    GEARS.into_iter().find(|&gears| (0..16).all(|n| entry(gears, n).next(r) == (Doors::Closed, gears)))
+}
+
 /// What `wall csv` writes.
 pub fn csv(r: &Rules) -> Vec<u8> {
     let numbered = |word: String, number: usize| match r.slip {
@@ -236,6 +249,8 @@ fn put(out: &mut String, r: &Rules) -> std::fmt::Result {
         let (x, y) = corner(down, 0, 0);
         let handle = if down != r.is(Slip::PageHandles) { "DOWN" } else { "UP" };
         writeln!(out, "<text class='handle' x='{x}' y='{}'>Handle {handle}</text>", y - 12)?;
+        let aims = aim(r, down != r.is(Slip::PageAims)).map_or("nothing".into(), word);
+        writeln!(out, "<text class='aim' x='{}' y='{}'>aims at {aims}</text>", x + 62, y - 12)?;
         for n in 0..4 {
             let (x, y) = corner(down, 0, n);
             writeln!(out, "<text class='head' x='{}' y='{}'>{}</text>", x + 3, y - 3, word(GEARS[n]))?;
@@ -244,6 +259,13 @@ fn put(out: &mut String, r: &Rules) -> std::fmt::Result {
         }
     }
     let rows = rows(r);
+    let number = match r.slip {
+        Slip::PageTableNumberUnweighed => rows.iter().map(|row| table_number(&[*row])).sum(),
+        _ => table_number(&rows),
+    };
+    if !r.is(Slip::PageNoTableNumber) {
+        writeln!(out, "<text class='table' x='40' y='415'>table number {number}</text>")?;
+    }
     for (place, rows) in rows.chunks(16).enumerate() {
         let times = match r.slip {
             Slip::PageLacks(lacks) if lacks == place => 0,

@@ -140,6 +140,40 @@ fn runs_ask_what_is_possible() {
     }
 }
 
+/// The table's number, as docs/WALL.md has it from the columns of the CSV. Two entries that differ and are exchanged
+/// change it, and so does a single entry that is another.
+#[test]
+fn the_table_number_is_of_all_entries_in_their_order() {
+    let mut rows = rows(&rules());
+    let number = table_number(&rows);
+    let weighed = |line: &str| {
+        let fields: Vec<&str> = line.split(',').collect();
+        let [entry, doors, gears] = [0, 12, 14].map(|n| fields[n].parse::<u64>().unwrap());
+        (entry + 1) * (4 * doors + gears)
+    };
+    assert_eq!((number, text().lines().skip(1).map(weighed).sum()), (1_016_708, number));
+    for i in 0..ENTRIES {
+        for j in 0..i {
+            let [one, other] = [rows[i].next, rows[j].next];
+            (rows[i].next, rows[j].next) = (other, one);
+            assert_eq!(table_number(&rows) == number, one == other, "{i} {j}");
+            (rows[i].next, rows[j].next) = (one, other);
+        }
+        let one = rows[i].next;
+        for other in DOORS.into_iter().flat_map(|doors| GEARS.map(|gears| (doors, gears))) {
+            rows[i].next = other;
+            assert_eq!(table_number(&rows) == number, one == other, "{i}");
+        }
+        rows[i].next = one;
+    }
+}
+
+/// The page that is stored is held to the peer's sequence: its places, its headings, its number.
+#[test]
+fn the_stored_page_agrees() {
+    assert_eq!(check(&rules(), &std::fs::read("../docs/wall.svg").unwrap()), []);
+}
+
 #[test]
 fn at_most_one_fact_makes_a_difference() {
     let counts: Vec<usize> = (0..PLACES).map(|place| differences(&rules(), place).len()).collect();
@@ -373,6 +407,26 @@ fn damaged_pages_are_refused_for_their_reason() {
     ] {
         let said = said(&swap(&own, from, to));
         assert!(said.contains(reason), "{from} -> {to}: {said}");
+    }
+    // What a handle aims at, and the table's number.
+    let number = "<text class='table' x='40' y='415'>table number 1016708</text>\n";
+    for (from, to, reason) in [
+        ("aims at RETRACTED", "aims at EXTENDED", "handle UP does not aim at EXTENDED"),
+        ("aims at EXTENDED", "aims at RETRACTED", "handle DOWN does not aim at RETRACTED"),
+        ("aims at EXTENDED", "aims at extended", "'aims at extended' is not understood"),
+        ("class='aim' x='102' y='38'", "class='aim' x='102' y='223'", "0 aims beside handle UP, not 1"),
+        ("class='aim' x='102' y='38'", "x='102' y='38'", "0 aims beside handle UP, not 1"),
+        (number, "", "0 table numbers, not 1"),
+        (number, &number.repeat(2), "2 table numbers, not 1"),
+        ("number 1016708", "number 1016709", "the table number is 1016709, and the table's is 1016708"),
+        ("number 1016708", "number 01016708", "'table number 01016708' is not understood"),
+    ] {
+        assert_eq!(said(&swap(&own, from, to)), format!("{reason}\n"), "{from} -> {to}");
+    }
+    // Entries that no place shows by itself.
+    for entry in [0, 17, 136, 300, 511] {
+        let fault = by_name(&format!("entry_{entry}_wrong")).unwrap();
+        assert!(said(&peer::wall::page(&fault)).contains("the table number is "), "{entry}");
     }
     // Places and headings moved together, so that each agrees, but in another order.
     let (a, b, c) = ("translate(40 ", "translate(102 ", "translate(9999 ");
