@@ -1,14 +1,11 @@
 -- Items in their ranges: the test says what it should, and so of each part.
 -- Assumes nothing.
-use Prim.Native.Nat.{ℕ, zero, suc, _+_, _≤_, _<_, suc-le-suc}
-use native.Mathlib.Numerals.{add-one}
+use Prim.Native.Nat.{ℕ, zero, suc, _≤_, _<_, suc-le-suc}
 use native.Mathlib.Omega.{arith}
-use mathlib.Core.Bool.{true, _&&_}
 use mathlib.Core.List.{List, [], _∷_, _++_}
 use mathlib.Core.Path.{_≡_, refl, ap}
 use lib.Dec.{T, leb, leb→le, le→leb}
-use lib.ListN.{length, take, drop, drop-of-length-le}
-use lib.Seq.{drop-cons}
+use lib.ListN.{length, take, drop}
 use mir.Facts.{and-yes, yes-and}
 use Rattle.image.specs.Items.{within, itemAt}
 
@@ -68,17 +65,3 @@ within-joined (top ∷ front) rest [] two f r = absurd f
 within-joined (top ∷ front) rest (item ∷ one) two f r =
     let parts = and-yes (leb item top) (within front one) f in
     yes-and (leb item top) (within (front ++ rest) (one ++ two)) (parts .0) (within-joined front rest one two (parts .1) r)
-
--- ---- One item after the other, as a loop looks at them
-
-module _ (tops items : List ℕ) (k : ℕ) where
-  pub within-turn :
-      k < length tops →
-      k < length items →
-      within (drop k tops) (drop k items) ≡ (leb (itemAt items k) (itemAt tops k) && within (drop (k + 1) tops) (drop (k + 1) items))
-  unfolding within
-  within-turn a b = rw (add-one, drop-cons tops k 0 a, drop-cons items k 0 b)
-
-  pub within-end : length tops ≤ k → length items ≤ k → within (drop k tops) (drop k items) ≡ true
-  unfolding within
-  within-end a b = rw (drop-of-length-le tops a, drop-of-length-le items b)

@@ -4,7 +4,7 @@ use Prim.Native.Nat.{ℕ, zero, suc, _+_, _-_, _/_, _%_, _<_, _≤_}
 use native.Mathlib.Omega.{arith}
 use mathlib.Core.List.{List, [], _∷_, _++_}
 use mathlib.Core.Path.{_≡_, refl, sym, ap, _∙_}
-use lib.ListN.{length, getD, List·getD-append, List·getD-eq-default}
+use lib.ListN.{length, List·getD-append, List·getD-eq-default}
 use lib.Seq.{getD-append-add}
 use Rattle.names.specs.Words.{entry, sensorNames, orderNames}
 use Rattle.names.proofs.Lengths.{to-longest}

@@ -29,7 +29,7 @@ up-to (suc digits) n = by-size (ltb n 10) (decimalUpTo digits (n / 10)) (digit0 
   by-size true tenth d e h = omega arith
   by-size false tenth d e h = omega (arith, length-append tenth (e ∷ []))
 
-number-length : (n : ℕ) → length (decimal n) ≤ 20
+pub number-length : (n : ℕ) → length (decimal n) ≤ 20
 unfolding decimal
 number-length n = up-to 20 n
 

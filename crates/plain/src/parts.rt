@@ -1,7 +1,7 @@
 // The items and the rules of an image by name (specs/Parts.antt), each put at the front of a text if there is room for it.
 ghost use Prim.Native.Nat.{_<_};
 ghost use lib.ListN.{length};
-ghost use Rattle.names.specs.Words.{entry, sensorNames, orderNames};
+ghost use Rattle.names.specs.Words.{entry, orderNames};
 ghost use Rattle.texts.specs.Puts.{PutIfRoom};
 ghost use Rattle.plain.specs.Parts.{sensorItems, orderItems, restNames, itemNames, onRule, ruleWords};
 

@@ -1,6 +1,6 @@
 -- Pieces that are put one after the other: the place after the last lies within the line, whether there was room for them or not.
 -- Assumes nothing.
-use Prim.Native.Nat.{ℕ, _+_, _≤_}
+use Prim.Native.Nat.{ℕ, _+_}
 use native.Mathlib.Omega.{arith}
 use mathlib.Core.Bool.{Bool, true, false}
 use mathlib.Core.List.{List, [], _++_}
@@ -9,7 +9,7 @@ use borrow.Author.Tests.{leb-true, leb-false}
 use lib.Dec.{leb}
 use lib.ListN.{length}
 use Rattle.common.proofs.Pairs.{both}
-use Rattle.texts.specs.Puts.{Put, PutIfRoom, putOf}
+use Rattle.texts.specs.Puts.{putOf}
 use Rattle.texts.proofs.Placing.{did-put, no-room}
 use Rattle.texts.proofs.Pieces as pieces
 use Rattle.saving.specs.Messages.{PutWithin}

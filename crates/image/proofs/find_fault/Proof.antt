@@ -1,7 +1,6 @@
 -- `image::find_fault` meets its contract: another length, an item out of its range, a rule broken, and nothing.
 -- Assumes nothing.
-use Prim.Native.Nat.{ℕ}
-use mathlib.Core.Path.{_≡_, sym, ap, subst⁻¹, _∙_}
+use mathlib.Core.Path.{sym, ap, subst⁻¹, _∙_}
 use borrow.Author.Tests.{eq-eqb}
 use lib.Dec.{T}
 use Rattle.controller.specs.declared.State.{State}

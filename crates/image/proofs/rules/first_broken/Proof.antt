@@ -7,7 +7,6 @@ use mathlib.Core.List.{List}
 use mathlib.Core.Path.{_≡_, ap, _∙_}
 use borrow.Author.Tests.{not-true, not-false}
 use lib.ListN.{length, getD, drop}
-use Rattle.image.specs.Rules.{rules}
 use Rattle.image.specs.Faults.{firstBroken}
 use Rattle.image.proofs.Searching.{broken-turn, broken-end}
 use borrow.Author.Needs.{needs}

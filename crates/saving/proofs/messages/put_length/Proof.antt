@@ -1,6 +1,5 @@
 -- `saving::messages::put_length` meets its contract: longer than an image, or shorter.
 -- Assumes nothing.
-use native.Mathlib.Omega.{arith}
 use borrow.Author.Tests.{lt-ltb, le-ltb}
 use Rattle.saving.specs.Messages.{lengthWords}
 use Rattle.saving.proofs.Putting.{put, and}
