@@ -4,7 +4,7 @@ use Prim.Native.Nat.{ℕ, zero, suc, _+_, _-_, _*_, _<_, _≤_}
 use native.Mathlib.Nat.{add-zero, add-suc, suc-add, le-of-suc-le-suc, not-suc-le-zero}
 use native.Mathlib.Numerals.{add-one}
 use native.Mathlib.Omega.{arith}
-use mathlib.Core.Bool.{Bool, true, false, Bool·beq}
+use mathlib.Core.Bool.{Bool, true, false, not, _||_, or-false, Bool·beq}
 use mathlib.Core.List.{List, [], _∷_, _++_, append-assoc, append-nil}
 use mathlib.Core.Path.{_≡_, refl, sym, ap, _∙_}
 use lib.ListN.{length, getD, take, length-append, List·getD-append}
@@ -24,6 +24,7 @@ use Rattle.dump.specs.Dumps.{
   valueLine,
   valueLines,
   differ,
+  someDiffer,
   changeLine,
   changesFrom,
   timeLine,
@@ -147,6 +148,13 @@ unchanged code old new e = rw (is-same old new e)
 pub changed : (code : ℕ) (old new : Bool) → Bool·beq old new ≡ false → changeLine code old new ≡ valueLine code new
 changed code old new e = rw (is-another old new e)
 
+-- As the loop tests it.
+pub tests-differ : (old new : Bool) → not (Bool·beq old new) ≡ differ old new
+tests-differ true true = refl
+tests-differ true false = refl
+tests-differ false true = refl
+tests-differ false false = refl
+
 -- A line has at most three bytes.
 pub change-length : (code : ℕ) (old new : Bool) → length (changeLine code old new) ≤ 3
 change-length code true true = omega arith
@@ -171,3 +179,48 @@ not-timed time (b ∷ changes) e = absurd (omega arith)
 pub is-timed : (time : ℕ) (changes : List ℕ) → 0 < length changes → timed time changes ≡ timeLine time ++ changes
 is-timed time [] h = absurd (omega arith)
 is-timed time (b ∷ changes) h = refl
+
+-- ---- Whether something changes
+
+in-turn : (t u v : Bool) → (t || (u || v)) ≡ ((t || u) || v)
+in-turn true u v = refl
+in-turn false u v = refl
+
+differ-more : (i : ℕ) (os ns : List Bool) → i < length os → i < length ns
+    → someDiffer (take (suc i) os) (take (suc i) ns)
+    ≡ (someDiffer (take i os) (take i ns) || differ (getD os i false) (getD ns i false))
+differ-more i [] ns h k = absurd (not-suc-le-zero h)
+differ-more i (o ∷ os) [] h k = absurd (not-suc-le-zero k)
+differ-more zero (o ∷ os) (n ∷ ns) h k = or-false (differ o n)
+differ-more (suc i) (o ∷ os) (n ∷ ns) h k =
+    ap (λ (t : Bool). differ o n || t) (differ-more i os ns (le-of-suc-le-suc h) (le-of-suc-le-suc k))
+    ∙ in-turn (differ o n) (someDiffer (take i os) (take i ns)) (differ (getD os i false) (getD ns i false))
+
+-- As a loop counts.
+pub differ-turn : (i : ℕ) (os ns : List Bool) → i < length os → i < length ns
+    → (someDiffer (take i os) (take i ns) || not (Bool·beq (getD os i false) (getD ns i false)))
+    ≡ someDiffer (take (i + 1) os) (take (i + 1) ns)
+differ-turn i os ns h k = rw (add-one i, tests-differ (getD os i false) (getD ns i false)) (sym (differ-more i os ns h k))
+
+-- Where nothing does, no change is written; where something does, one is.
+pub none-differ : (code : ℕ) (os ns : List Bool) → someDiffer os ns ≡ false → length (changesFrom code os ns) ≡ 0
+unfolding changesFrom
+none-differ code [] ns e = refl
+none-differ code (o ∷ os) [] e = refl
+none-differ code (o ∷ os) (n ∷ ns) e = by-wire (differ o n) refl e (λ f. none-differ (suc code) os ns f) where
+  by-wire : (t : Bool) → differ o n ≡ t → (t || someDiffer os ns) ≡ false
+      → (someDiffer os ns ≡ false → length (changesFrom (suc code) os ns) ≡ 0)
+      → length (changeLine code o n ++ changesFrom (suc code) os ns) ≡ 0
+  by-wire true d f on = let z : _≡_ {A = ℕ} 0 1 = cc in absurd (omega arith)
+  by-wire false d f on = rw d (on f)
+
+pub some-differ : (code : ℕ) (os ns : List Bool) → someDiffer os ns ≡ true → 0 < length (changesFrom code os ns)
+unfolding changesFrom
+some-differ code [] ns e = let z : _≡_ {A = ℕ} 0 1 = cc in absurd (omega arith)
+some-differ code (o ∷ os) [] e = let z : _≡_ {A = ℕ} 0 1 = cc in absurd (omega arith)
+some-differ code (o ∷ os) (n ∷ ns) e = by-wire (differ o n) refl e (λ f. some-differ (suc code) os ns f) where
+  by-wire : (t : Bool) → differ o n ≡ t → (t || someDiffer os ns) ≡ true
+      → (someDiffer os ns ≡ true → 0 < length (changesFrom (suc code) os ns))
+      → 0 < length (changeLine code o n ++ changesFrom (suc code) os ns)
+  by-wire true d f on = rw d (omega arith)
+  by-wire false d f on = rw d (on f)

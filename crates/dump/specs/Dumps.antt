@@ -1,7 +1,7 @@
 -- Request K2: the value change dump, from a list of times and values to all its bytes.
 -- Assumes nothing.
 use Prim.Native.Nat.{ℕ, suc, _+_, _*_, _^_, _<_}
-use mathlib.Core.Bool.{Bool, true, false, cond}
+use mathlib.Core.Bool.{Bool, true, false, cond, _||_}
 use mathlib.Core.List.{List, [], _∷_, _++_}
 use mathlib.Core.Path.{_≡_}
 use lib.ListN.{length}
@@ -94,6 +94,12 @@ differ false false = false
 differ false true = true
 differ true false = true
 differ true true = false
+
+-- Some wire changes.
+abbrev pub someDiffer : List Bool → List Bool → Bool
+someDiffer [] news = false
+someDiffer (old ∷ olds) [] = false
+someDiffer (old ∷ olds) (new ∷ news) = differ old new || someDiffer olds news
 
 -- A wire that changes is written with its new value; one that does not, is not.
 abbrev pub changeLine : ℕ → Bool → Bool → List ℕ

@@ -21,6 +21,7 @@ ghost use Rattle.dump.specs.Dumps.{
   valueLines,
   headText,
   changeLine,
+  someDiffer,
   changesFrom,
   timeLine,
   timeRoom,
@@ -243,12 +244,24 @@ fn put_moment(line: &mut [u8], time: u64, olds: [bool; WIRES], news: [bool; WIRE
     requires { ⌜ momentRoom ≤ length (now line) ⌝ }
     ensures { λ r. ⌜ (r ≤ momentRoom) × (take r (now (line .exit)) ≡ momentText olds (record { time = time; values = news })) ⌝ }
 {
-    let timed = put_time(line, time);
-    let changed = put_changes(line, timed, olds, news);
-    if changed == timed {
+    if !some_change(olds, news) {
         return 0;
     }
-    changed
+    let timed = put_time(line, time);
+    put_changes(line, timed, olds, news)
+}
+
+// Whether some wire changes.
+fn some_change(olds: [bool; WIRES], news: [bool; WIRES]) -> bool
+    ensures { λ r. ⌜ r ≡ someDiffer olds news ⌝ }
+{
+    let mut some = false;
+    let mut i = 0;
+    while i < WIRES {
+        some = some | (olds[i] != news[i]);
+        i += 1;
+    }
+    some
 }
 
 // Puts the line of a time.
