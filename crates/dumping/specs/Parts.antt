@@ -1,4 +1,5 @@
--- The same by parts, one row a call: what is written of a row, and what a call gives, with the line buffer and the output buffer that are lent.
+-- The same by parts, one row a call or as many as there is room for: what is written of a row, and what a call gives, with the line buffer and
+-- the output buffer that are lent.
 -- Assumes nothing.
 use Prim.Native.Nat.{ℕ, _+_}
 use mathlib.Core.Bool.{Bool, false, cond}

@@ -1,7 +1,8 @@
 // A whole run of the program `waves` (request K2): a trace in, the value change dump of it out, from a fresh controller or from one that
 // was handed over (request K3). The rule is specs/Moments.antt, from all bytes of the trace to all bytes of the dump. The trace is taken in
 // by parts, one row a call, by the crate `reading`: here is only what is written of a row (specs/Parts.antt). proofs/Law.antt says that
-// however the input is cut, what is written in all is the dump of the whole.
+// however the input is cut, what is written in all is the dump of the whole. `fill` takes in a whole part, as a program has it from one read,
+// into one output buffer, for one write.
 ghost use mathlib.Core.Path.{_≡_};
 ghost use Prim.Native.Nat.{_-_, _≤_};
 ghost use mathlib.Core.Bool.{_&&_, not};

@@ -27,8 +27,8 @@ returns : tie.Need-returns
 unfolding momentText
 returns c =
     let a = c .before .before .before .args in
-    let changes = changesFrom firstCode (a .olds) (a .news) in
-    (omega arith, sym (not-timed (a .time) changes (none-differ firstCode (a .olds) (a .news) (sym (c .before .some-change .ensures) ∙ is-false (c .before .some-change .result) (c .if1 .taken)))))
+    let same = sym (c .before .some-change .ensures) ∙ is-false (c .before .some-change .result) (c .if1 .taken) in
+    (omega arith, sym (not-timed (a .time) (changesFrom firstCode (a .olds) (a .news)) (none-differ firstCode (a .olds) (a .news) same)))
 
 put-time-requires : tie.Need-put-time-requires
 put-time-requires c κs = search needs
