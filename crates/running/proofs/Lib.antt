@@ -1,0 +1,4 @@
+pub mod Along
+pub mod Calls
+pub mod Law
+pub mod Once

@@ -1,0 +1,19 @@
+-- `running::Work::new` meets its contract: a run, a dump and a sheet at their start.
+-- Assumes nothing.
+use Rattle.running.specs.Works.{workOf}
+use borrow.Author.Needs.{needs}
+use Rattle.running.proofs.Work.new.Statement.{statement}
+use Rattle.running.proofs.Work.new.Tie as tie
+
+from-requires : tie.Need-from-requires
+from-requires c κs = search needs
+
+new-requires : tie.Need-new-requires
+new-requires c κs = search needs
+
+returns : tie.Need-returns
+unfolding workOf
+returns c = simp (c .new .ensures, c .before .before .before .from .ensures)
+
+pub new-spec : {M : Type 1} → statement M
+new-spec = tie.close (tie.spec from-requires new-requires returns)
