@@ -109,7 +109,7 @@ unfolding elapsedOf ahead
 elapsed-ahead ms last stamp h = omega arith
 
 -- The same controller by that clock.
-abbrev onAhead : ℕ → State → State
+abbrev pub onAhead : ℕ → State → State
 onAhead ms s = startedAt (ahead ms (s .stamp)) s
 
 module _ (ms : ℕ) (s : State) (stamp : ℕ) (bytes : List ℕ) (is32 : s .stamp < 2 ^ 32) where
@@ -125,11 +125,12 @@ module _ (ms : ℕ) (s : State) (stamp : ℕ) (bytes : List ℕ) (is32 : s .stam
       accepted-ahead
       refl
 
-  step-is32 : stamp < 2 ^ 32 → stepOf s stamp bytes .state .stamp < 2 ^ 32
+  pub step-is32 : stamp < 2 ^ 32 → stepOf s stamp bytes .state .stamp < 2 ^ 32
   unfolding stages
   step-is32 h = step-keeps (λ (t : State). t .stamp < 2 ^ 32) s stamp bytes h is32
 
-same-times-ahead :
+-- By that clock the same samples come at the same times.
+pub same-times-ahead :
     (ms : ℕ) (s : State) (rows : List Row) → s .stamp < 2 ^ 32 → Of32Bits rows → SameTimes s rows (onAhead ms s) (allAhead ms rows)
 unfolding Of32Bits SameTimes startedAt
 same-times-ahead ms s [] is32 are32 = tt

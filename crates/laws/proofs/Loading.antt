@@ -1,5 +1,5 @@
--- The laws hold of the controller in every image that is taken. Without K3's rules they would not: an image that breaks one has opposites
--- together.
+-- The laws hold of the controller in every image that is taken. Of those that get 11 they do not all hold, shown of one rule and of one law:
+-- an image with close_EV on that is not wanted has opposites together.
 -- Assumes nothing.
 use mathlib.Core.Path.{refl}
 use Rattle.voter.specs.Numbers.{channelsAt}

@@ -1,5 +1,6 @@
 -- Document 01, "Ages": "Each of the five orders has an age (ms since it last went on or off), and so has the voted handle." What that
--- says over a list of samples, with no age in it: the accepted time since each of the six last changed.
+-- says over a list of samples: the accepted time since each of the six last changed. Of one that does not change at any of them it is all
+-- their accepted time, on top of the age that it had before them; from a fresh start that is 60,000, so there is no age in it.
 -- Assumes nothing.
 use mathlib.Core.Bool.{Bool, cond, not, Bool·beq}
 use mathlib.Core.List.{List, [], _∷_}

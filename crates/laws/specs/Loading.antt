@@ -1,4 +1,4 @@
--- Request K3, "a rule is broken": the laws hold from the images that are taken, and not from those that break a rule.
+-- Request K3, "11 a rule broken": the laws hold from the images that are taken, and not from all that get 11.
 -- Assumes nothing.
 use mathlib.Core.List.{List}
 use mathlib.Core.Path.{_≡_}
