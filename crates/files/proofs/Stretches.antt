@@ -7,7 +7,6 @@ use mathlib.Core.List.{List, [], _∷_, _++_}
 use mathlib.Core.Path.{_≡_, refl, sym, ap, subst, _∙_}
 use borrow.Author.Tests.{eqb-true, eqb-false}
 use lib.Dec.{eqb}
-use Rattle.lines.specs.Rows.{rowsOf}
 use Rattle.lines.proofs.Steps.{either}
 use Rattle.controller.specs.declared.State.{State}
 use Rattle.controller.specs.declared.Answer.{Answer}
@@ -19,14 +18,13 @@ use Rattle.laws.specs.Reached.{Reached}
 use Rattle.laws.proofs.Stages.{stages}
 use Rattle.laws.proofs.Lifted.{taken-is-accepted}
 use Rattle.settling.specs.Runs.{next, isTaken, elapsedIn}
-use Rattle.reading.specs.declared.Reading.{Reading}
 use Rattle.reading.specs.declared.Came.{Came}
 use Rattle.reading.specs.declared.Came.the-variants.{Nothing, Answered, Refused}
-use Rattle.reading.specs.Rows.{rowOf, readFrom}
-use Rattle.files.specs.Told.{Told, toldFrom, told, Each}
+use Rattle.files.specs.Told.{Told, told, Linked, Each}
 use Rattle.files.specs.RowLaws.{NumberedBy, Numbered, OwnAnswer, OwnRow, AnsweredBy, AnsweredRight, Shows}
 use Rattle.files.specs.RowLaws.OwnAnswer.{starts, steps}
 use Rattle.files.specs.Stretches.{IsAnswered, elapsedAt, elapsedOver, stateAfter, Stretch}
+use Rattle.files.proofs.Told.{rows-are-linked}
 use Rattle.files.proofs.EachRow.{numbers-tell-the-place}
 use Rattle.files.proofs.Laws.{Sound, sound}
 
@@ -106,16 +104,6 @@ module _ (P : State → Type 0) (t : Told) (rows : List Told) (samples : List Ro
 
 -- ---- Rows of a file
 
--- Each row is on its line, and starts from the state that the one before left.
-abbrev Linked : ℕ → State → List Told → Type 0
-Linked line s [] = Unit {0}
-Linked line s (t ∷ ts) = (t .line ≡ line) × (t .before ≡ s) × Linked (line + 1) (t .after) ts
-
-linked : (line : ℕ) (reading : Reading) (rows : List (List ℕ)) → Linked line (reading .state) (toldFrom line reading rows)
-unfolding toldFrom
-linked line reading [] = (refl, refl, tt)
-linked line reading (row ∷ rows) = (refl, refl, linked (line + 1) (rowOf reading row .reading) rows)
-
 -- What is so of each row.
 pub record Fine (t : Told) : Type 0 where
   pub number : Numbered t
@@ -163,9 +151,8 @@ module _ (state : State) (reached : Reached state) (input : List ℕ) (first : T
     rows = first ∷ (rest ++ stretch .back)
 
     here : (line : ℕ) × (s : State) × Linked line s rows × Each Fine rows
-    unfolding told
     here =
-        behind-front (stretch .front) rows 1 state (subst (Linked 1 state) (stretch .are) (linked 1 (readFrom state) (rowsOf input)))
+        behind-front (stretch .front) rows 1 state (subst (Linked 1 state) (stretch .are) (rows-are-linked state input))
         (subst (Each Fine) (stretch .are) (fine (told state input) (numbers-tell-the-place state input) (sound state reached input)))
 
     pub first-fine : Fine first

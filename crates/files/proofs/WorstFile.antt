@@ -1,11 +1,11 @@
--- Demand 3 of a file is not empty: the run that settles at the bound is a stretch of the file of a trace, so the bound cannot drop there
--- either.
+-- Demand 3 of a file is not empty: the run that settles at the bound is a stretch of a file of `replay`. One row earlier it is not settled,
+-- so of the rows of files the stronger form holds with no lower number.
 -- Assumes nothing.
-use Prim.Native.Nat.{ℕ, _+_, _-_, _≤_, _<_}
+use Prim.Native.Nat.{ℕ, _+_, _≤_, _<_}
 use native.Mathlib.Omega.{arith}
 use mathlib.Core.Bool.{Bool, true, false, not, _&&_}
-use mathlib.Core.List.{List, [], _∷_, _++_}
-use mathlib.Core.Path.{_≡_, refl, ap, subst, subst⁻¹, _∙_}
+use mathlib.Core.List.{List, [], _∷_, _++_, append-assoc}
+use mathlib.Core.Path.{_≡_, refl, sym, ap, subst, subst⁻¹, _∙_}
 use borrow.Author.Tests.{eqb-true}
 use lib.Dec.{T, eqb, leb, eqb→eq, leb→le}
 use lib.ListN.{length}
@@ -19,7 +19,7 @@ use Rattle.sequence.specs.Moves.{aimOf}
 use Rattle.controller.specs.declared.State.{State}
 use Rattle.controller.specs.Start.{freshOf, startedAt}
 use Rattle.controller.specs.Lamps.{lightsOf, shownOf}
-use Rattle.controller.specs.Stages.{elapsedOf}
+use Rattle.controller.specs.Stages.{elapsedOf, anomaly}
 use Rattle.controller.specs.Steps.{limit, stepOf}
 use Rattle.controller.specs.Samples.{sees, Row, after}
 use Rattle.controller.specs.Votes.{handle, sensor}
@@ -28,7 +28,7 @@ use Rattle.laws.specs.Reached.Reached.{fresh}
 use Rattle.laws.proofs.Computing.{runs}
 use Rattle.settling.specs.Runs.{next, isTaken, handleSays, Held, elapsedIn, elapsedSince}
 use Rattle.settling.specs.Settled.{settled}
-use Rattle.settling.specs.WorstRuns.{rowsFrom, start, firstRow, stretches, late, Shown}
+use Rattle.settling.specs.WorstRuns.{rowsFrom, start, firstRow, stretches, closedAtLast, late, latest, Shown}
 use Rattle.settling.proofs.Demand3.{same, goes-on, taken-and-says}
 use Rattle.settling.proofs.Worst.{settles-at-the-bound}
 use Rattle.reading.specs.declared.Phase.the-variants.{Rows}
@@ -39,7 +39,7 @@ use Rattle.reading.specs.Rows.{untold, answerTo, shownRow, rowOf, readFrom}
 use Rattle.reading.proofs.Starts.{behind-the-header}
 use Rattle.files.specs.Told.{Told, toldOf, toldFrom, told, Each}
 use Rattle.files.specs.Stretches.{elapsedOver, stateAfter, Stretch}
-use Rattle.files.specs.Between.{Accepts, HandleIs, LooksUnsettledEarly, OfEveryFile}
+use Rattle.files.specs.Between.{Accepts, HandleIs, LooksUnsettledEarly, OfEveryFile, SettlesAt}
 use Rattle.files.specs.Traces.{AllBearable, InOneTrace, rowsBearing, traceBearing, dueBehind}
 use Rattle.files.proofs.EachRow.{readAt}
 use Rattle.files.proofs.Stretches.{stamp-of}
@@ -149,6 +149,11 @@ times down n s (r ∷ rs) h =
     ap (elapsedOf (s .stamp)) (stamp-of s r (is-taken down s r rs h)) in
     omega (arith, here, others)
 
+after-last : (s : State) (rows : List Row) (r : Row) → after s (rows ++ r ∷ []) ≡ next (after s rows) r
+unfolding after
+after-last s [] r = refl
+after-last s (q ∷ rows) r = after-last (next s q) rows r
+
 states : (n : ℕ) (s : State) (samples : List Row) → stateAfter s (toldRows n s samples) ≡ after s samples
 unfolding stateAfter after
 states n s [] = refl
@@ -188,23 +193,95 @@ all-tested (r ∷ rs) h =
 zeroth : Row
 zeroth = (1000, sees 1 0 1 0 1 0 0)
 
-worst-bears : InOneTrace (zeroth ∷ firstRow ∷ late)
-unfolding zeroth allBits allBearable runs rowsFrom stretches firstRow late
-worst-bears = record { each = all-tested (zeroth ∷ firstRow ∷ late) tt; labels = leb→le (length (zeroth ∷ firstRow ∷ late)) (greatest + 1) tt }
+worst-bears : InOneTrace (zeroth ∷ firstRow ∷ latest)
+unfolding zeroth allBits allBearable runs rowsFrom stretches closedAtLast firstRow latest
+worst-bears =
+    record { each = all-tested (zeroth ∷ firstRow ∷ latest) tt; labels = leb→le (length (zeroth ∷ firstRow ∷ latest)) (greatest + 1) tt }
 
--- So of the rows of files no lower number would do.
-pub the-bound-cannot-drop-in-a-file : (ms : ℕ) → OfEveryFile (LooksUnsettledEarly limit ms) → bound ≤ ms
-unfolding boundFor zeroth startedAt freshOf start elapsedSince after settled shownOf lightsOf
-the-bound-cannot-drop-in-a-file ms early =
-    let last = settles-at-the-bound .0 in
-    let stays : Held false start (firstRow ∷ late) = subst⁻¹ T (ap (λ (x : Shown). x .isHeld) last) tt in
+-- Its last row, with doors seen closed.
+lastRow : Row
+lastRow = (25797, sees 0 0 0 0 1 0 1)
+
+late-and-last : latest ≡ late ++ lastRow ∷ []
+unfolding lastRow runs rowsFrom stretches closedAtLast late latest
+late-and-last = refl
+
+-- What is told of a last row stands behind what is told of the others.
+told-last : (n : ℕ) (s : State) (rows : List Row) (r : Row)
+    → (k : ℕ) × (toldRows n s (rows ++ r ∷ []) ≡ toldRows n s rows ++ toldRow k (after s rows) r ∷ [])
+unfolding after
+told-last n s [] r = (n, refl)
+told-last n s (q ∷ rows) r =
+    let others = told-last (n + 1) (next s q) rows r in (others .0, ap (λ (ts : List Told). toldRow n s q ∷ ts) (others .1))
+
+-- So there is a stretch of a file over which 24,796 ms elapse with the handle held, and at its last row it is settled without red; at the row
+-- in front of that, 100 ms earlier, it is not settled.
+pub settles-at-the-bound-in-a-file : SettlesAt bound limit false
+unfolding boundFor zeroth startedAt freshOf start elapsedSince after anomaly settled shownOf lightsOf
+settles-at-the-bound-in-a-file =
+    let early = settles-at-the-bound .0 in
+    let end = settles-at-the-bound .1 in
     let behind = next start firstRow in
-    let others = goes-on false start firstRow late stays in
-    let ends = states 2 behind late in
-    let time : elapsedOver (toldRows 2 behind late) ≡ bound - limit = times false 2 behind late others ∙ ap (λ (x : Shown). x .since) last in
-    let unsettled = subst⁻¹ (λ (isSettled : Bool). T (not isSettled)) (ap (λ (x : Shown). x .isSettled) last) tt in
-    subst (λ (since : ℕ). since + limit ≤ ms) time
-    (early (freshOf 0) (fresh 0) (traceBearing (zeroth ∷ firstRow ∷ late)) (toldRow 1 start firstRow) (toldRows 2 behind late)
-    (stretch-of (freshOf 0) zeroth firstRow late worst-bears) (accepts false start firstRow late stays) false
-    (handles false 1 start (firstRow ∷ late) stays)
-    (subst⁻¹ (λ (t : State). T (not (settled (aimOf false) (t .core)))) ends unsettled))
+    let stays : Held false start (firstRow ∷ latest) = subst⁻¹ T (ap (λ (x : Shown). x .isHeld) end) tt in
+    let wereHeld : Held false start (firstRow ∷ late) = subst⁻¹ T (ap (λ (x : Shown). x .isHeld) early) tt in
+    let last = told-last 2 behind late lastRow in
+    let are : toldRows 2 behind latest ≡ toldRows 2 behind late ++ toldRow (last .0) (after behind late) lastRow ∷ [] =
+    ap (toldRows 2 behind) late-and-last ∙ last .1 in
+    let ends : after behind latest ≡ next (after behind late) lastRow =
+    ap (after behind) late-and-last ∙ after-last behind late lastRow in
+    record {
+      input = traceBearing (zeroth ∷ firstRow ∷ latest);
+      first = toldRow 1 start firstRow;
+      rest = toldRows 2 behind late;
+      last = toldRow (last .0) (after behind late) lastRow;
+      is-stretch =
+          subst (Stretch (freshOf 0) (traceBearing (zeroth ∷ firstRow ∷ latest)) (toldRow 1 start firstRow)) are
+          (stretch-of (freshOf 0) zeroth firstRow latest worst-bears);
+      accepts = accepts false start firstRow latest stays;
+      held = subst (λ (ts : List Told). Each (HandleIs false) (toldRow 1 start firstRow ∷ ts)) are (handles false 1 start (firstRow ∷ latest) stays);
+      in-all =
+          ap elapsedOver (sym are)
+          ∙ times false 2 behind latest (goes-on false start firstRow latest stays)
+          ∙ ap (λ (x : Shown). x .since) end;
+      settles =
+          subst (λ (t : State). T (settled (aimOf false) (t .core))) ends (subst⁻¹ T (ap (λ (x : Shown). x .isSettled) end) tt);
+      not-red =
+          subst (λ (t : State). T (not (anomaly (t .core)))) ends
+          (subst⁻¹ (λ (isRed : Bool). T (not isRed)) (ap (λ (x : Shown). x .isRed) end) tt);
+      earlier =
+          ap (λ (since : ℕ). since + limit)
+          (times false 2 behind late (goes-on false start firstRow late wereHeld) ∙ ap (λ (x : Shown). x .since) early);
+      not-yet =
+          subst⁻¹ (λ (t : State). T (not (settled (aimOf false) (t .core)))) (states 2 behind late)
+          (subst⁻¹ (λ (isSettled : Bool). T (not isSettled)) (ap (λ (x : Shown). x .isSettled) early) tt);
+    }
+
+-- ---- The stronger form
+
+-- A stretch without its last row.
+but-for-the-last : (state : State) (input : List ℕ) (first : Told) (rest : List Told) (last : Told)
+    → Stretch state input first (rest ++ last ∷ [])
+    → Stretch state input first rest
+but-for-the-last state input first rest last stretch =
+    record {
+      front = stretch .front;
+      back = last ∷ stretch .back;
+      are =
+          stretch .are
+          ∙ ap (λ (ts : List Told). stretch .front ++ first ∷ ts) (append-assoc rest (last ∷ []) (stretch .back));
+    }
+
+each-but-last : (Law : Told → Type 0) (ts : List Told) (last : Told) → Each Law (ts ++ last ∷ []) → Each Law ts
+each-but-last Law [] last h = tt
+each-but-last Law (t ∷ ts) last h = (h .0, each-but-last Law ts last (h .1))
+
+-- It holds with no lower number.
+pub the-bound-cannot-drop-in-a-file : (ms : ℕ) → OfEveryFile (LooksUnsettledEarly limit ms) → bound ≤ ms
+the-bound-cannot-drop-in-a-file ms early =
+    let worst = settles-at-the-bound-in-a-file in
+    subst (λ (since : ℕ). since ≤ ms) (worst .earlier)
+    (early (freshOf 0) (fresh 0) (worst .input) (worst .first) (worst .rest)
+    (but-for-the-last (freshOf 0) (worst .input) (worst .first) (worst .rest) (worst .last) (worst .is-stretch))
+    (worst .accepts) false
+    (each-but-last (HandleIs false) (worst .first ∷ worst .rest) (worst .last) (worst .held))
+    (worst .not-yet))

@@ -2,7 +2,7 @@
 -- Assumes nothing.
 use Prim.Native.Nat.{ℕ, _+_, _≤_}
 use mathlib.Core.Bool.{Bool, not, _&&_, _||_}
-use mathlib.Core.List.{List, _∷_}
+use mathlib.Core.List.{List, [], _∷_, _++_}
 use mathlib.Core.Path.{_≡_}
 use lib.Dec.{T}
 use Rattle.sequence.specs.declared.Aim.{Aim}
@@ -10,6 +10,7 @@ use Rattle.sequence.specs.Moves.{aimOf, atAim}
 use Rattle.sequence.specs.Places.{areClosed}
 use Rattle.controller.specs.declared.State.{State}
 use Rattle.controller.specs.declared.Shown.{Shown}
+use Rattle.controller.specs.Start.{freshOf}
 use Rattle.controller.specs.Lamps.{shownOf}
 use Rattle.controller.specs.Votes.{handle, sensor}
 use Rattle.laws.specs.Reached.{Reached}
@@ -48,3 +49,19 @@ OfEveryFile Says =
     (down : Bool) →
     Each (HandleIs down) (first ∷ rest) →
     Says (elapsedOver rest) (aimOf down) (shownOf (stateAfter (first .after) rest))
+
+-- A stretch of a file of `replay` that meets all that is asked there, with the handle as it is said and so many ms elapsed at its last row,
+-- which shows doors CLOSED, gears at the aim and no red; at the row in front of that, so many ms earlier, it does not look settled.
+pub record SettlesAt (ms step : ℕ) (down : Bool) : Type 0 where
+  pub input : List ℕ
+  pub first : Told
+  pub rest : List Told
+  pub last : Told
+  pub is-stretch : Stretch (freshOf 0) input first (rest ++ last ∷ [])
+  pub accepts : Accepts first
+  pub held : Each (HandleIs down) (first ∷ (rest ++ last ∷ []))
+  pub in-all : elapsedOver (rest ++ last ∷ []) ≡ ms
+  pub settles : T (looksSettled (aimOf down) (shownOf (last .after)))
+  pub not-red : T (not (shownOf (last .after) .lights .red))
+  pub earlier : elapsedOver rest + step ≡ ms
+  pub not-yet : T (not (looksSettled (aimOf down) (shownOf (stateAfter (first .after) rest))))

@@ -15,7 +15,8 @@ use Rattle.files.specs.Stretches.{IsAnswered, elapsedOver, stateAfter, S
 
 -- ---- A row and the next
 
--- What is said of what was shown before a row and of what it shows.
+-- What is said of what was shown before a row, which is what the one in front of it shows (`rows-are-linked` of proofs/Told.antt), and of
+-- what it shows.
 abbrev pub FromRowToRow : (Shown → Shown → Type 0) → Told → Type 0
 FromRowToRow Says t = Says (shownOf (t .before)) (shownOf (t .after))
 

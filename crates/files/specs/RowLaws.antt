@@ -68,7 +68,8 @@ AnsweredRight t = AnsweredBy t (t .came)
 abbrev pub Shows : (State → Type 0) → Told → Type 0
 Shows Law t = Law (t .after)
 
--- From the state before it doors and gears made one move of the ground model or none, by the handle as the row voted it.
+-- From the state before it, which the row in front of it shows, doors and gears made one move of the ground model or none, by the handle as
+-- the row voted it.
 abbrev pub OneMoveAtMost : Told → Type 0
 OneMoveAtMost t = OneMoveOrNone (handleOf (t .after)) (t .before .core .place) (t .after .core .place)
 
@@ -84,7 +85,8 @@ pub data OneForEach : List Told → Type 0 where
   at-refusal : (t : Told) (ts : List Told) (at refusal : ℕ) → t .came ≡ Refused at refusal → Each Untold ts → OneForEach (t ∷ ts)
   at-row : (t : Told) (ts : List Told) (label code : ℕ) → t .came ≡ Answered label code → OneForEach ts → OneForEach (t ∷ ts)
 
--- The whole: an input with no header is line 1, refusal 5 or 6; of the header there is nothing to tell.
+-- The whole: "An input with no header is line 1, refusal 5"; where its first row is over 512 bytes it is the 6 of the table under "Refusal
+-- numbers", which comes first. Of the header there is nothing to tell.
 pub data WholeFile : List Told → Type 0 where
   no-header : (t : Told) (ts : List Told) (refusal : ℕ)
       → (refusal ≡ 5) ⊎ (refusal ≡ 6)

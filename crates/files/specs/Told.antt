@@ -3,6 +3,7 @@
 -- Assumes nothing.
 use Prim.Native.Nat.{ℕ, _+_}
 use mathlib.Core.List.{List, [], _∷_, _++_}
+use mathlib.Core.Path.{_≡_}
 use Rattle.lines.specs.Rows.{rowsOf}
 use Rattle.controller.specs.declared.State.{State}
 use Rattle.reading.specs.declared.Reading.{Reading}
@@ -45,6 +46,14 @@ textOf t = textBy (t .came) (t .after)
 unfoldable pub textsOf : List Told → List ℕ
 textsOf [] = []
 textsOf (t ∷ ts) = textOf t ++ textsOf ts
+
+-- ---- From row to row
+
+-- The first is on this line and starts from this state, and each other is on the next line and starts from the state that the one in front of
+-- it shows.
+abbrev pub Linked : ℕ → State → List Told → Type 0
+Linked line s [] = Unit {0}
+Linked line s (t ∷ ts) = (t .line ≡ line) × (t .before ≡ s) × Linked (line + 1) (t .after) ts
 
 -- ---- A law of each row
 
