@@ -97,7 +97,7 @@ record Right (t : Told) : Type 0 where
   answered : AnsweredRight t
 
 -- The line of the row that is due.
-abbrev OnLine : ℕ → Phase → Type 0
+abbrev pub OnLine : ℕ → Phase → Type 0
 OnLine line Header = line ≡ 1
 OnLine line (Rows due) = line ≡ lineOf due
 OnLine line (Ended at refusal) = Unit {0}
@@ -106,7 +106,7 @@ OnLine line (Ended at refusal) = Unit {0}
 abbrev Goes : ℕ → List ℕ → Reading → Heard → Type 0
 Goes line row reading heard = Right (toldOf line row reading heard) × OnLine (line + 1) (heard .reading .phase)
 
-next-line : (line label : ℕ) → label ≤ greatest → line ≡ label + 2 → line + 1 ≡ lineOf (nextDue (Label label))
+pub next-line : (line label : ℕ) → label ≤ greatest → line ≡ label + 2 → line + 1 ≡ lineOf (nextDue (Label label))
 next-line line label fits e =
     either (ltb label greatest) (λ t. rw t (omega arith)) (λ t. rw t (omega (arith, ltb-false label greatest t)))
 
@@ -138,6 +138,10 @@ row-right line row (Rows due) state e = by (behind due state row) where
       )
   by (ends refusal code here) = rw here (ends-right line row (readAt (Rows due) state) (lineOf due) refusal e code)
 row-right line row (Ended at refusal) state e = (record { numbered = tt; coded = tt; answered = refl }, tt)
+
+pub next-on-its-line : (line : ℕ) (row : List ℕ) (phase : Phase) (state : State) → OnLine line phase
+    → OnLine (line + 1) (rowOf (readAt phase state) row .reading .phase)
+next-on-its-line line row phase state e = row-right line row phase state e .1
 
 end-right : (line : ℕ) (phase : Phase) (state : State) → OnLine line phase
     → Right (toldOf line [] (readAt phase state) (endOf (readAt phase state)))

@@ -3,6 +3,7 @@ pub mod Told
 pub mod Refusals
 pub mod EachRow
 pub mod PerRow
+pub mod Left
 pub mod Laws
 pub mod Stretches
 pub mod Between

@@ -1,4 +1,5 @@
--- When saving into a lent buffer is refused, and of which line an image is. (That what is written of a whole trace is the image of its last state is the crate `files`.)
+-- When saving into a lent buffer is refused, and when an image has a line. (That what is written of a whole trace is the image of its last
+-- state, and that its line is that of the last row that was answered, is the crate `files`.)
 -- Assumes nothing.
 use Prim.Native.Nat.{ℕ, _-_}
 use native.Mathlib.Omega.{arith}

@@ -1,4 +1,4 @@
--- The worked traces are saved as they should be: the rules compute.
+-- The worked traces are saved as they should be, with their lines: the rules compute.
 -- Assumes nothing.
 use mathlib.Core.Path.{refl}
 use Rattle.common.specs.Ascii.{ended, joinedByCommas}
@@ -19,7 +19,7 @@ use Rattle.reading.specs.Rows.{endsAt, headerRow, answerTo, shownRow, noSample,
 use Rattle.reading.specs.Whole.{readTo}
 use Rattle.reading.specs.SessionS.{traceOf, rowsOfS}
 use Rattle.handing.specs.Handing.{imageLeft, savedOf}
-use Rattle.handing.specs.Cases.{imageOfS, saves, handingCases}
+use Rattle.handing.specs.Cases.{imageOfS, saves, isOfLine, handingCases}
 
 pub as-worked : AllAsWanted handingCases
 unfolding
@@ -28,5 +28,5 @@ unfolding
     before rowsOf digitsFrom numberIn tripleOf fieldsOf triplesOf formOf inTurn readRow headerNames sensorNames headerText sameText joinedByCommas
     endsAt headerRow answerTo shownRow noSample traceRow rowOf endOf readTo
     ended traceOf rowsOfS
-    imageLeft savedOf imageOfS saves handingCases
+    imageLeft savedOf imageOfS saves isOfLine handingCases
 as-worked = refl

@@ -1,5 +1,5 @@
--- Request K3, worked: Session S of document 01 up to row 4, saved; the same where the battery tore the next row; and traces that
--- have no row 0.
+-- Request K3, worked: Session S of document 01 up to row 4, saved; the same behind row 5, which gets a 3, and where the battery tore row 5;
+-- and traces that have no row 0. Of each, the line that its image is of.
 -- Assumes nothing.
 use Prim.Native.Nat.{ℕ}
 use Prim.Native.String.{String}
@@ -9,8 +9,11 @@ use Rattle.common.specs.Ascii.{ascii}
 use Rattle.common.specs.Case.{Case}
 use Rattle.controller.specs.Start.{freshOf}
 use Rattle.image.specs.Xdr.{bytesOf}
+use Rattle.lines.specs.Rows.{rowsOf}
+use Rattle.reading.specs.Rows.{readFrom}
+use Rattle.reading.specs.Whole.{readTo}
 use Rattle.reading.specs.SessionS.{traceOf, rowsOfS}
-use Rattle.handing.specs.Handing.{savedOf}
+use Rattle.handing.specs.Handing.{savedOf, lastLine}
 
 -- The image that Session S leaves behind row 4.
 unfoldable pub imageOfS : List ℕ
@@ -46,11 +49,23 @@ imageOfS =
 unfoldable pub saves : String → List ℕ → List ℕ → Case
 saves name input wanted = record { name = name; gives = savedOf (freshOf 0) input; wanted = wanted }
 
+unfoldable pub isOfLine : String → List ℕ → ℕ → Case
+isOfLine name input line =
+    record { name = name; gives = lastLine (readTo (readFrom (freshOf 0)) (rowsOf input) .phase) ∷ []; wanted = line ∷ [] }
+
+-- The header is line 1, so row 4 is line 6.
 unfoldable pub handingCases : List Case
 handingCases =
     saves "Session S up to row 4" (traceOf (take 5 rowsOfS)) imageOfS
-    ∷ saves "the next row is torn" (traceOf (take 5 rowsOfS) ++ ascii "5,13") imageOfS
+    ∷ isOfLine "Session S up to row 4" (traceOf (take 5 rowsOfS)) 6
+    ∷ saves "row 5 gets a 3" (traceOf (take 6 rowsOfS)) imageOfS
+    ∷ isOfLine "row 5 gets a 3" (traceOf (take 6 rowsOfS)) 7
+    ∷ saves "row 5 is torn" (traceOf (take 5 rowsOfS) ++ ascii "5,13") imageOfS
+    ∷ isOfLine "row 5 is torn" (traceOf (take 5 rowsOfS) ++ ascii "5,13") 6
     ∷ saves "row 0 is torn" (traceOf [] ++ ascii "0,1000,111,0") []
+    ∷ isOfLine "row 0 is torn" (traceOf [] ++ ascii "0,1000,111,0") 0
     ∷ saves "the header alone" (traceOf []) []
+    ∷ isOfLine "the header alone" (traceOf []) 0
     ∷ saves "no header" [] []
+    ∷ isOfLine "no header" [] 0
     ∷ []

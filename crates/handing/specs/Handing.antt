@@ -18,8 +18,8 @@ use Rattle.handing.specs.declared.Saved.{Saved}
 
 -- ---- The whole run
 
--- Where row 0 has been read, the image of the controller as the last good row left it: also where a 5, 6 or 7 ended the reading
--- behind row 0, for a battery that dies tears the last row of a log. Where it has not been read, nothing.
+-- Where row 0 has been read, the image of the controller as the last row that was answered left it: also where a 5, 6 or 7 ended the
+-- reading behind row 0, for a battery that dies tears the last row of a log. Where it has not been read, nothing.
 unfoldable pub imageLeft : Reading → List ℕ
 imageLeft reading = cond (hasStarted (reading .phase)) (imageOf (reading .state)) []
 
@@ -33,8 +33,8 @@ savedOf state input = imageLeft (readTo (readFrom state) (rowsOf input))
 abbrev pub lineBefore : ℕ → ℕ
 lineBefore line = cond (ltb 2 line) (line - 1) 0
 
--- The line of the last good row: the one before the row that is due, or before the line that the reading ended on. Where row 0 has not been
--- read, 0.
+-- The line of the last row that was answered, with 0, 3 or 4 (`the-image-is-of-its-line` of the crate `files`): the one before the row that
+-- is due, or before the line that the reading ended on. Where row 0 has not been read, 0.
 abbrev pub lastLine : Phase → ℕ
 lastLine Header = 0
 lastLine (Rows due) = lineBefore (lineOf due)

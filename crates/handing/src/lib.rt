@@ -32,7 +32,7 @@ pub fn save_last(run: Run, out: &mut [u8]) -> Saved
     }
 }
 
-// The line of the trace that the last state of a run is of: that of its last good row. Where row 0 has not been read it is 0.
+// The line of the trace that the last state of a run is of: that of the last row that was answered. Where row 0 has not been read it is 0.
 pub fn last_line(run: Run) -> u64
     ensures { λ r. ⌜ r ≡ lastLine (run .reading .phase) ⌝ }
 {
