@@ -130,7 +130,7 @@ row-right line row (Rows due) state e = by (behind due state row) where
       let on : line ≡ label + 2 = e ∙ ap lineOf was in
       rw here (
         record {
-          numbered = on;
+          numbered = omega (arith, on);
           coded = answer-coded state label stamp row sample form;
           answered = record { stamp = stamp; sample = sample; in-form = form; own = own-answer state label stamp sample };
         },

@@ -214,8 +214,8 @@ told-last n s [] r = (n, refl)
 told-last n s (q ∷ rows) r =
     let others = told-last (n + 1) (next s q) rows r in (others .0, ap (λ (ts : List Told). toldRow n s q ∷ ts) (others .1))
 
--- So there is a stretch of a file over which 24,796 ms elapse with the handle held, and at its last row it is settled without red; at the row
--- in front of that, 100 ms earlier, it is not settled.
+-- So there is a stretch of a file over which 24,796 ms elapse with the handle held, and at its last row it is settled without red; at the
+-- row in front of that, 100 ms earlier, it is not settled.
 pub settles-at-the-bound-in-a-file : SettlesAt bound limit false
 unfolding boundFor zeroth startedAt freshOf start elapsedSince after anomaly settled shownOf lightsOf
 settles-at-the-bound-in-a-file =
@@ -238,7 +238,9 @@ settles-at-the-bound-in-a-file =
           subst (Stretch (freshOf 0) (traceBearing (zeroth ∷ firstRow ∷ latest)) (toldRow 1 start firstRow)) are
           (stretch-of (freshOf 0) zeroth firstRow latest worst-bears);
       accepts = accepts false start firstRow latest stays;
-      held = subst (λ (ts : List Told). Each (HandleIs false) (toldRow 1 start firstRow ∷ ts)) are (handles false 1 start (firstRow ∷ latest) stays);
+      held =
+          subst (λ (ts : List Told). Each (HandleIs false) (toldRow 1 start firstRow ∷ ts)) are
+          (handles false 1 start (firstRow ∷ latest) stays);
       in-all =
           ap elapsedOver (sym are)
           ∙ times false 2 behind latest (goes-on false start firstRow latest stays)

@@ -49,8 +49,8 @@ textsOf (t ∷ ts) = textOf t ++ textsOf ts
 
 -- ---- From row to row
 
--- The first is on this line and starts from this state, and each other is on the next line and starts from the state that the one in front of
--- it shows.
+-- The first is on this line and starts from this state, and each other is on the next line and starts from the state that the one in front
+-- of it shows.
 abbrev pub Linked : ℕ → State → List Told → Type 0
 Linked line s [] = Unit {0}
 Linked line s (t ∷ ts) = (t .line ≡ line) × (t .before ≡ s) × Linked (line + 1) (t .after) ts
