@@ -28,7 +28,7 @@ use Rattle.chart.specs.Page.{
   tableText,
   pageText,
 }
-use Rattle.chart.specs.Headings.{headingBegin, handleText, aimText, columnText, rowText, columnsText, rowsText, headingsText}
+use Rattle.chart.specs.Headings.{headingBegin, handleText, aimText, columnText, rowText, headingsText}
 use Rattle.table.proofs.Weights.{table-number}
 
 pub csv-length : length csvText ≡ 32374
@@ -41,5 +41,5 @@ pub page-length : length pageText ≡ 14082
 unfolding givenFrom flatten decimal decimalUpTo
     atAim nextGears doorsToGears doorsHome moveOf doorsAt gearsAt factsAt askedAt movingHaveOpen
     keptOf decides decisive frameText numbersText whenText partBegin partsText nextText elseText placeText lines headLines tailLines
-    headingBegin handleText aimText columnText rowText columnsText rowsText headingsText tableText pageText
+    headingBegin handleText aimText columnText rowText headingsText tableText pageText
 page-length = rw table-number

@@ -10,7 +10,7 @@ use Rattle.table.specs.Table.{factsAt, askedAt}
 use Rattle.sequence.specs.Places.{movingHaveOpen}
 use Rattle.chart.specs.Differences.{keptOf, decides, decisive}
 use Rattle.chart.specs.Page.{frameText, numbersText, whenText, partBegin, partsText, nextText, elseText, placeText, lines}
-use Rattle.chart.specs.Headings.{headingBegin, handleText, aimText, columnText, rowText, columnsText, rowsText, headingsText}
+use Rattle.chart.specs.Headings.{headingBegin, handleText, aimText, columnText, rowText, headingsText}
 use Rattle.chart.specs.PageCases.{openingLines, openingPlace, greyLines, greyPlace, upLines, upHeadings, downLines, downHeadings}
 
 pub places-as-wanted : AllAsWanted (openingPlace ∷ greyPlace ∷ [])
@@ -21,5 +21,5 @@ places-as-wanted = refl
 
 pub headings-as-wanted : AllAsWanted (upHeadings ∷ downHeadings ∷ [])
 unfolding decimal decimalUpTo doorsAt gearsAt factsAt askedAt
-    headingBegin handleText aimText columnText rowText columnsText rowsText headingsText lines upLines upHeadings downLines downHeadings
+    headingBegin handleText aimText columnText rowText headingsText lines upLines upHeadings downLines downHeadings
 headings-as-wanted = refl

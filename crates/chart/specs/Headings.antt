@@ -76,14 +76,9 @@ rowText k =
     headingBegin kindClass 120 (top k + 160) ++ rowPiece ++
     headingBegin headClass 120 (top k + 225) ++ doorsWord (placeOf k .doors) ++ endOfTextPiece
 
--- The four columns of the places from k on.
-unfoldable pub columnsText : ℕ → List ℕ
-columnsText k = columnText k ++ columnText (k + 1) ++ columnText (k + 2) ++ columnText (k + 3)
-
--- Their four rows.
-unfoldable pub rowsText : ℕ → List ℕ
-rowsText k = rowText k ++ rowText (k + 4) ++ rowText (k + 8) ++ rowText (k + 12)
-
--- All headings of the sixteen places from k on, which have one handle.
+-- Those of the sixteen places from k on, which have one handle: four columns, and four rows.
 unfoldable pub headingsText : ℕ → List ℕ
-headingsText k = handleText k ++ aimText k ++ columnsText k ++ rowsText k
+headingsText k =
+    handleText k ++ aimText k ++
+    columnText k ++ columnText (k + 1) ++ columnText (k + 2) ++ columnText (k + 3) ++
+    rowText k ++ rowText (k + 4) ++ rowText (k + 8) ++ rowText (k + 12)

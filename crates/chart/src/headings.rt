@@ -1,5 +1,6 @@
 // Where the places stand on the page, and the headings above and before them. The rule is specs/Headings.antt.
 // The text is put piece by piece: every function puts its piece if there is room for it.
+ghost use mathlib.Core.List.{_++_};
 ghost use mathlib.Core.Path.{_≡_};
 ghost use Prim.Native.Nat.{_≤_};
 ghost use Rattle.names.specs.Words.{entry, handleWord};
@@ -9,14 +10,11 @@ ghost use Rattle.chart.specs.Headings.{
   top,
   capital,
   capitals,
-  aimed,
   headingBegin,
   handleText,
   aimText,
   columnText,
   rowText,
-  columnsText,
-  rowsText,
   headingsText,
 };
 ghost use Rattle.chart.specs.Parts.{parts};
@@ -40,60 +38,37 @@ pub(crate) fn top(k: u8) -> u64
     615 + 385 * ((k / 4 % 4) as u64) + 1780 * ((k / 16) as u64)
 }
 
-// Puts the headings of the sixteen places from k on.
+// Puts the headings of the sixteen places from k on: their handle, their four columns, their four rows.
 pub(crate) fn put_headings(text: &mut [u8], at: usize, k: u8) -> usize
     requires { ⌜ k ≤ 16 ⌝ }
     ensures { λ r. ⌜ PutIfRoom (now (text .entry)) at (headingsText k) (now (text .exit)) r ⌝ }
 {
-    let handle = put_handle(text, at, k);
-    let aim = put_aim(text, handle, k);
-    let columns = put_columns(text, aim, k);
-    put_rows(text, columns, k)
+    let next = put_handle(text, at, k);
+    let next = put_column(text, next, k);
+    let next = put_column(text, next, k + 1);
+    let next = put_column(text, next, k + 2);
+    let next = put_column(text, next, k + 3);
+    let next = put_row(text, next, k);
+    let next = put_row(text, next, k + 4);
+    let next = put_row(text, next, k + 8);
+    put_row(text, next, k + 12)
 }
 
-// Puts the headings of their four columns.
-fn put_columns(text: &mut [u8], at: usize, k: u8) -> usize
-    requires { ⌜ k ≤ 16 ⌝ }
-    ensures { λ r. ⌜ PutIfRoom (now (text .entry)) at (columnsText k) (now (text .exit)) r ⌝ }
-{
-    let first = put_column(text, at, k);
-    let second = put_column(text, first, k + 1);
-    let third = put_column(text, second, k + 2);
-    put_column(text, third, k + 3)
-}
-
-// Puts the headings of their four rows.
-fn put_rows(text: &mut [u8], at: usize, k: u8) -> usize
-    requires { ⌜ k ≤ 16 ⌝ }
-    ensures { λ r. ⌜ PutIfRoom (now (text .entry)) at (rowsText k) (now (text .exit)) r ⌝ }
-{
-    let first = put_row(text, at, k);
-    let second = put_row(text, first, k + 4);
-    let third = put_row(text, second, k + 8);
-    put_row(text, third, k + 12)
-}
-
-// Puts the handle of place k.
+// Puts the handle of place k, and what it aims at.
 fn put_handle(text: &mut [u8], at: usize, k: u8) -> usize
-    ensures { λ r. ⌜ PutIfRoom (now (text .entry)) at (handleText k) (now (text .exit)) r ⌝ }
+    ensures { λ r. ⌜ PutIfRoom (now (text .entry)) at (handleText k ++ aimText k) (now (text .exit)) r ⌝ }
 {
     let asked = Asked::numbered(16 * (k as usize));
     let aim = asked.aim;
-    let begun = put_begin(text, at, parts::HANDLE_CLASS, 120, top(k) - 125);
+    let gears = Gears::numbered(2 * (aim.number() as u32));
+    let down = top(k);
+    let begun = put_begin(text, at, parts::HANDLE_CLASS, 120, down - 125);
     let said = put_part(text, begun, parts::HANDLE);
     let named = put_capitals(text, said, aim);
-    put_part(text, named, parts::END)
-}
-
-// Puts what it aims at.
-fn put_aim(text: &mut [u8], at: usize, k: u8) -> usize
-    ensures { λ r. ⌜ PutIfRoom (now (text .entry)) at (aimText k) (now (text .exit)) r ⌝ }
-{
-    let asked = Asked::numbered(16 * (k as usize));
-    let aim = asked.aim;
-    let begun = put_begin(text, at, parts::AIM_CLASS, 760, top(k) - 125);
+    let ended = put_part(text, named, parts::END);
+    let begun = put_begin(text, ended, parts::AIM_CLASS, 760, down - 125);
     let said = put_part(text, begun, parts::AIMS_AT);
-    let named = names::put_gears(text, said, aimed(aim));
+    let named = names::put_gears(text, said, gears);
     put_part(text, named, parts::END)
 }
 
@@ -164,14 +139,4 @@ fn capital(letter: u8) -> u8
         return letter;
     }
     letter - 32
-}
-
-// The gears that are at an aim.
-fn aimed(aim: Aim) -> Gears
-    ensures { λ r. ⌜ r ≡ aimed aim ⌝ }
-{
-    match aim {
-        Aim::ToRetracted => Gears::Retracted,
-        Aim::ToExtended => Gears::Extended,
-    }
 }

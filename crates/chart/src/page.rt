@@ -16,7 +16,6 @@ ghost use Rattle.chart.specs.Page.{
   nextText,
   elseText,
   placeText,
-  tableText,
   pageText,
 };
 ghost use Rattle.chart.specs.Parts.{parts};
@@ -92,8 +91,10 @@ fn put_all(text: &mut [u8], at: usize) -> usize
     let up = put_headings(text, headed, 0);
     let down = put_headings(text, up, 16);
     let placed = put_places(text, down);
-    let numbered = put_table_number(text, placed);
-    texts::put(text, numbered, &TAIL)
+    let opened = put_part(text, placed, parts::TABLE);
+    let numbered = texts::put_number(text, opened, table::table_number());
+    let ended = put_part(text, numbered, parts::END);
+    texts::put(text, ended, &TAIL)
 }
 
 // Puts all places.
@@ -107,15 +108,6 @@ fn put_places(text: &mut [u8], at: usize) -> usize
         k += 1;
     }
     next
-}
-
-// Puts the table's number.
-fn put_table_number(text: &mut [u8], at: usize) -> usize
-    ensures { λ r. ⌜ PutIfRoom (now (text .entry)) at tableText (now (text .exit)) r ⌝ }
-{
-    let opened = put_part(text, at, parts::TABLE);
-    let numbered = texts::put_number(text, opened, table::table_number());
-    put_part(text, numbered, parts::END)
 }
 
 // Puts place k.

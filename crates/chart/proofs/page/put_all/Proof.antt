@@ -1,22 +1,27 @@
 -- `chart::page::put_all` meets its contract: the head, the headings, the places, the table's number, and the notes.
 -- Assumes nothing.
-use Rattle.chart.specs.Page.{lines, headLines, tailLines, pageText}
+use Rattle.chart.specs.Parts.{parts}
+use Rattle.chart.specs.Page.{lines, headLines, tailLines, tableText, pageText}
 use Rattle.texts.proofs.Pieces.{put, and}
 use borrow.Author.Needs.{needs}
 use Rattle.chart.proofs.page.put_all.Statement.{statement}
 use Rattle.chart.proofs.page.put_all.Tie as tie
 
 returns : tie.Need-returns
-unfolding lines headLines tailLines pageText
+unfolding parts lines headLines tailLines tableText pageText
 returns c =
-    let ended = c .before .before in
-    let numbered = ended .before .before .before .before .before in
-    let placed = numbered .before .before .before .before in
+    let noted = c .before .before in
+    let ended = noted .before .before .before .before .before in
+    let number = ended .before .before .before .before in
+    let opened = number .before .before .before .before .before in
+    let placed = opened .before .before .before .before in
     let down = placed .before .before .before .before in
     let up = down .before .before .before .before in
     let headed = up .before .before .before .before in
-    and (and (and (and (and (put (headed .put .ensures)) (up .put-headings .ensures)) (down .put-headings2 .ensures)) (placed .put-places .ensures)) (numbered .put-table-number .ensures))
-    (put (ended .put2 .ensures))
+    let sum = rw (number .before .table-number .ensures) at (put (number .put-number .ensures)) in
+    let table = and (and (opened .put-part .ensures) sum) (ended .put-part2 .ensures) in
+    and (and (and (and (and (put (headed .put .ensures)) (up .put-headings .ensures)) (down .put-headings2 .ensures)) (placed .put-places .ensures)) table)
+    (put (noted .put2 .ensures))
 
 pub put-all-spec : {M : Type 1} → statement M
-put-all-spec = tie.close (tie.spec (λ c. search needs) (λ c κs. search needs) (λ c κs. search needs) (λ c κs. search needs) (λ c κs. search needs) (λ c κs. search needs) (λ c. search needs) (λ c κs. search needs) (λ c. search needs) returns)
+put-all-spec = tie.close (tie.spec (λ c. search needs) (λ c κs. search needs) (λ c κs. search needs) (λ c κs. search needs) (λ c κs. search needs) (λ c κs. search needs) (λ c κs. search needs) (λ c κs. search needs) (λ c κs. search needs) (λ c. search needs) (λ c κs. search needs) (λ c. search needs) returns)
