@@ -2,9 +2,7 @@
 -- its sixteen places, the gears above a column, the doors before a row.
 -- Assumes nothing.
 use Prim.Native.Nat.{ℕ, _+_, _-_, _*_, _/_, _%_}
-use mathlib.Core.Bool.{cond}
 use mathlib.Core.List.{List, _++_, map}
-use lib.Dec.{ltb}
 use Rattle.common.specs.Decimal.{decimal}
 use Rattle.sequence.specs.declared.Aim.{Aim}
 use Rattle.sequence.specs.declared.Aim.the-variants.{ToRetracted, ToExtended}
@@ -40,12 +38,9 @@ top k = 615 + 385 * (k / 4 % 4) + 1780 * (k / 16)
 
 -- ---- Words
 
--- A small letter's capital; what is no small letter stays.
-abbrev pub capital : ℕ → ℕ
-capital letter = cond (ltb letter 97) letter (cond (ltb 122 letter) letter (letter - 32))
-
+-- A word of small letters in capitals, which stand 32 before them.
 abbrev pub capitals : List ℕ → List ℕ
-capitals word = map capital word
+capitals word = map (λ (letter : ℕ). letter - 32) word
 
 -- The gears that are at an aim.
 abbrev pub aimed : Aim → Gears

@@ -8,7 +8,6 @@ ghost use Rattle.texts.specs.Puts.{PutIfRoom};
 ghost use Rattle.chart.specs.Headings.{
   left,
   top,
-  capital,
   capitals,
   headingBegin,
   handleText,
@@ -113,30 +112,12 @@ fn put_begin(text: &mut [u8], at: usize, class: usize, across: u64, down: u64) -
     put_part(text, downed, parts::WORDS)
 }
 
-// Puts the handle's word in capitals.
+// Puts the handle's word in capitals: at most four small letters, with blanks behind them.
 fn put_capitals(text: &mut [u8], at: usize, aim: Aim) -> usize
     ensures { λ r. ⌜ PutIfRoom (now (text .entry)) at (capitals (handleWord aim)) (now (text .exit)) r ⌝ }
 {
-    let mut word = [0; 4];
+    let mut word = [b' '; 4];
     let n = names::put_handle(&mut word, 0, aim);
-    let raised = [
-        capital(word[0]),
-        capital(word[1]),
-        capital(word[2]),
-        capital(word[3]),
-    ];
+    let raised = [word[0] - 32, word[1] - 32, word[2] - 32, word[3] - 32];
     texts::put(text, at, &raised[..n])
-}
-
-// A small letter's capital; what is no small letter stays.
-fn capital(letter: u8) -> u8
-    ensures { λ r. ⌜ r ≡ capital letter ⌝ }
-{
-    if letter < b'a' {
-        return letter;
-    }
-    if b'z' < letter {
-        return letter;
-    }
-    letter - 32
 }
