@@ -53,7 +53,7 @@ pub(crate) fn put_headings(text: &mut [u8], at: usize, k: u8) -> usize
     put_row(text, next, k + 12)
 }
 
-// Puts the handle of place k, and what it aims at.
+// Puts the handle of place k, and what it aims at: up, which is 0, at gears number 0, and down, which is 1, at number 2.
 fn put_handle(text: &mut [u8], at: usize, k: u8) -> usize
     ensures { λ r. ⌜ PutIfRoom (now (text .entry)) at (handleText k ++ aimText k) (now (text .exit)) r ⌝ }
 {
