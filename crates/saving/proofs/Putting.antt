@@ -3,7 +3,7 @@
 use Prim.Native.Nat.{ℕ, _+_}
 use native.Mathlib.Omega.{arith}
 use mathlib.Core.Bool.{Bool, true, false}
-use mathlib.Core.List.{List, [], _++_}
+use mathlib.Core.List.{List, [], _∷_, _++_}
 use mathlib.Core.Path.{_≡_, refl, sym, ap, _∙_}
 use borrow.Author.Tests.{leb-true, leb-false}
 use lib.Dec.{leb}
@@ -12,7 +12,7 @@ use Rattle.common.proofs.Pairs.{both}
 use Rattle.texts.specs.Puts.{putOf}
 use Rattle.texts.proofs.Placing.{did-put, no-room}
 use Rattle.texts.proofs.Pieces as pieces
-use Rattle.saving.specs.Messages.{PutWithin}
+use Rattle.saving.specs.Messages.{PutWithin, ofFile, saidOf}
 
 -- Nothing is put.
 pub nothing : (line : List ℕ) (at : ℕ) → PutWithin line at [] line at
@@ -37,3 +37,14 @@ and p q = ((λ h. omega (arith, p .0 h, p .1, q .0 (omega (arith, p .0 h, p .1))
 -- The same piece written otherwise.
 pub same : {before : List ℕ} {at : ℕ} {one other after : List ℕ} {next : ℕ} → one ≡ other → PutWithin before at one after next → PutWithin before at other after next
 same e p = (p .0, p .1, pieces.same e (p .2))
+
+-- An empty path is left out, and no other.
+pub without-path : (path what : List ℕ) → length path ≡ 0 → saidOf path what ≡ what
+unfolding saidOf
+without-path [] what e = refl
+without-path (b ∷ path) what e = absurd (omega arith)
+
+pub with-path : (path what : List ℕ) → ¬ (length path ≡ 0) → saidOf path what ≡ ofFile path what
+unfolding saidOf
+with-path [] what some = absurd (some refl)
+with-path (b ∷ path) what some = refl

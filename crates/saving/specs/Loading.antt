@@ -1,14 +1,14 @@
 -- What loading an image by its name gives. (Which bytes a file has is the operating system's to say.)
 -- Assumes nothing.
 use Prim.Native.Nat.{ℕ}
-use mathlib.Core.Bool.{_&&_}
-use mathlib.Core.List.{List}
-use mathlib.Core.Path.{_≡_}
+use mathlib.Core.Bool.{Bool, _&&_, _||_}
+use mathlib.Core.List.{List, []}
 use lib.Dec.{eqb}
+use lib.ListN.{length}
 use Rattle.controller.specs.Start.{freshOf}
 use Rattle.image.specs.Xdr.{itemsIn}
 use Rattle.image.specs.Items.{itemAt}
-use Rattle.image.specs.Images.{refusalOf, loadOf}
+use Rattle.image.specs.Images.{size, refusalOf, loadOf}
 use Rattle.image.specs.Faults.{isBlank}
 use Rattle.saving.specs.declared.Loaded.{Loaded}
 
@@ -20,8 +20,13 @@ loadedOf bytes =
       taken = eqb (refusalOf bytes) 0;
       blank = eqb (refusalOf bytes) 0 && isBlank bytes;
       state = loadOf (freshOf 0) bytes (itemAt (itemsIn bytes) 0) .state;
+      read = length bytes;
     }
 
--- There are bytes that this is the loading of. (Where nothing could be read there are none, and so it is not taken.)
-abbrev pub LoadingOfBytes : Loaded → Type 0
-LoadingOfBytes loaded = (bytes : List ℕ) × (loaded ≡ loadedOf bytes)
+-- Where nothing could be read: no bytes are no image.
+unfoldable pub notRead : Loaded
+notRead = loadedOf []
+
+-- A file of which so many bytes were read may be replaced by an image: it is empty, or has the length of one.
+abbrev pub mayStand : ℕ → Bool
+mayStand n = eqb n 0 || eqb n size

@@ -2,7 +2,7 @@
 -- Assumes nothing.
 use Prim.Native.Nat.{ℕ, _≤_}
 use mathlib.Core.Bool.{cond}
-use mathlib.Core.List.{List, [], _++_}
+use mathlib.Core.List.{List, [], _∷_, _++_}
 use mathlib.Core.Path.{_≡_}
 use lib.Dec.{ltb}
 use lib.ListN.{length}
@@ -25,6 +25,11 @@ PutWithin before at piece after next =
 -- Of a file that has this name.
 unfoldable pub ofFile : List ℕ → List ℕ → List ℕ
 ofFile path what = path ++ ascii ": " ++ what
+
+-- The same, with an empty path left out.
+unfoldable pub saidOf : List ℕ → List ℕ → List ℕ
+saidOf [] what = what
+saidOf (byte ∷ path) what = ofFile (byte ∷ path) what
 
 -- Why the system does not do what it is asked.
 abbrev pub reasonWords : Reason → List ℕ

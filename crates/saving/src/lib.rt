@@ -3,20 +3,29 @@
 // what an operating system does nothing can be promised: the contracts promise what is made of the bytes.
 ghost use mathlib.Core.Bool.{false};
 ghost use mathlib.Core.Path.{_≡_};
+ghost use Prim.Native.Nat.{_≤_};
 ghost use lib.Dec.{T};
+ghost use lib.ListN.{length, take};
 ghost use Rattle.image.specs.Images.{refusalOf};
-ghost use Rattle.saving.specs.Loading.{loadedOf, LoadingOfBytes};
+ghost use Rattle.words.specs.Messages.{isAtOnce};
+ghost use Rattle.saving.specs.Loading.{loadedOf, notRead, mayStand};
+ghost use Rattle.saving.specs.Messages.{saidOf};
 
 mod files;
 mod messages;
 
 use controller::State;
 
-// An image that was asked for by its name: whether it was taken, whether every item of it is 0, and the controller that it is of.
+// A buffer for an image that is loaded has one byte more than an image, so that a longer file is seen to be no image.
+pub const ROOM: usize = image::SIZE + 1;
+
+// An image that was asked for by its name: whether it was taken, whether every item of it is 0, the controller that it is of, and how many
+// bytes of the buffer were read of it.
 pub struct Loaded {
     pub taken: bool,
     pub blank: bool,
     pub state: State,
+    pub read: usize,
 }
 
 // Why the system does not do what it is asked (specs/Messages.antt).
@@ -31,23 +40,30 @@ pub enum Reason {
     Other(u64),
 }
 
-// Loads the image that has this path, or says in one line why not.
-pub fn load(name: &[u8], path: &[u8]) -> Loaded
-    ensures { λ r. ⌜ LoadingOfBytes r ⌝ }
+// Loads the image that has this path through a lent buffer, or says in one line why not.
+pub fn load(name: &[u8], path: &[u8], buffer: &mut [u8]) -> Loaded
+    ensures { λ r. ⌜ r ≡ loadedOf (take (r .read) (now (buffer .exit))) ⌝ }
 {
+    if buffer.len() < ROOM {
+        messages::say(
+            name,
+            path,
+            b"refusal 8: the buffer for an image is too short",
+        );
+        return not_read();
+    }
     let fd = os::open_read(path);
     if fd < 0 {
         return unread(name, path, os::errno());
     }
-    let mut bytes = [0u8; image::SIZE + 1];
-    let got = files::read(fd, &mut bytes);
+    let got = files::read(fd, buffer);
     let error = os::errno();
     libc::close(fd);
     if !got.well {
         return unread(name, path, error);
     }
     let n = got.n;
-    take_in(name, path, &bytes[..n])
+    take_in(name, path, &buffer[..n])
 }
 
 // Puts an image at a path: beside what stands there, synced, and then in its place. Where that cannot be it says why in one line, and what
@@ -67,15 +83,30 @@ pub fn replace(name: &[u8], path: &[u8], bytes: &[u8]) -> bool
     false
 }
 
+// Says this of a file, in one line on standard error, as the other functions do; an empty path is left out. Answers as `words::say` does.
+pub fn say_of(name: &[u8], path: &[u8], what: &[u8]) -> bool
+    ensures { λ r. ⌜ (length (saidOf (now (path .entry)) (now (what .entry))) ≤ 4352 → r ≡ isAtOnce (now (name .entry)) (saidOf (now (path .entry)) (now (what .entry)))) ⌝ }
+{
+    messages::say(name, path, what)
+}
+
 // Nothing was read.
 fn unread(name: &[u8], path: &[u8], error: i32) -> Loaded
-    ensures { λ r. ⌜ LoadingOfBytes r ⌝ }
+    ensures { λ r. ⌜ r ≡ notRead ⌝ }
 {
     messages::say_reason(name, path, b"it cannot be read: ", files::reason(error));
+    not_read()
+}
+
+// What is not read is not taken.
+fn not_read() -> Loaded
+    ensures { λ r. ⌜ r ≡ notRead ⌝ }
+{
     Loaded {
         taken: false,
         blank: false,
         state: State::fresh(0),
+        read: 0,
     }
 }
 
@@ -91,6 +122,7 @@ fn take_in(name: &[u8], path: &[u8], bytes: &[u8]) -> Loaded
         taken,
         blank: taken & image::is_blank(bytes),
         state,
+        read: bytes.len(),
     }
 }
 
@@ -100,7 +132,7 @@ fn may_replace(name: &[u8], path: &[u8]) -> bool {
     if fd < 0 {
         return is_free(name, path, os::errno());
     }
-    let mut bytes = [0u8; image::SIZE + 1];
+    let mut bytes = [0u8; ROOM];
     let got = files::read(fd, &mut bytes);
     let error = os::errno();
     let synced = libc::fsync(fd);
@@ -112,7 +144,7 @@ fn may_replace(name: &[u8], path: &[u8]) -> bool {
         messages::say(name, path, b"nothing was saved: this is no file on a disk");
         return false;
     }
-    if (got.n == 0) | (got.n == image::SIZE) {
+    if may_stand(got.n) {
         return true;
     }
     messages::say(
@@ -121,6 +153,13 @@ fn may_replace(name: &[u8], path: &[u8]) -> bool {
         b"nothing was saved: what stands there is no image",
     );
     false
+}
+
+// Whether a file of which so many bytes were read may be replaced: it is empty, or has the length of an image.
+fn may_stand(n: usize) -> bool
+    ensures { λ r. ⌜ r ≡ mayStand n ⌝ }
+{
+    (n == 0) | (n == image::SIZE)
 }
 
 // A path that cannot be read is free where nothing stands there.

@@ -1,18 +1,23 @@
 // What is said of a file (specs/Messages.antt), each as one line on standard error that is put together first.
 ghost use mathlib.Core.List.{_++_};
-ghost use Rattle.saving.specs.Messages.{PutWithin, ofFile, reasonWords, lengthWords, faultWords};
+ghost use mathlib.Core.Path.{_≡_};
+ghost use Prim.Native.Nat.{_≤_};
+ghost use lib.ListN.{length};
+ghost use Rattle.words.specs.Messages.{isAtOnce};
+ghost use Rattle.saving.specs.Messages.{PutWithin, ofFile, saidOf, reasonWords, lengthWords, faultWords};
 use crate::Reason;
 use image::Fault;
 
 // Says this of a file; an empty path is left out.
-pub(crate) fn say(name: &[u8], path: &[u8], what: &[u8]) {
+pub(crate) fn say(name: &[u8], path: &[u8], what: &[u8]) -> bool
+    ensures { λ r. ⌜ (length (saidOf (now (path .entry)) (now (what .entry))) ≤ 4352 → r ≡ isAtOnce (now (name .entry)) (saidOf (now (path .entry)) (now (what .entry)))) ⌝ }
+{
     if path.len() == 0 {
-        words::say(name, what);
-        return;
+        return words::say(name, what);
     }
     let mut line = [0u8; 4352];
     let end = put_of_file(&mut line, path, what);
-    words::say(name, &line[..end]);
+    words::say(name, &line[..end])
 }
 
 // Says of a file what was to be done, and why the system does not do it.

@@ -1,10 +1,23 @@
--- `saving::load` meets its contract: nothing was read, or the bytes that were.
+-- `saving::load` meets its contract: nothing was read, or the bytes that stand in front of the buffer.
 -- Assumes nothing.
 use native.Mathlib.Omega.{arith}
 use lib.ListN.{length-take}
+use Rattle.saving.proofs.NoBytes.{of-nothing, of-bytes}
 use borrow.Author.Needs.{needs}
 use Rattle.saving.proofs.load.Statement.{statement}
 use Rattle.saving.proofs.load.Tie as tie
+
+slice-aggregate-say : tie.Need-slice-aggregate-say
+slice-aggregate-say c = search needs
+
+say-requires : tie.Need-say-requires
+say-requires c κs = search needs
+
+not-read-requires : tie.Need-not-read-requires
+not-read-requires c κs = search needs
+
+returns : tie.Need-returns
+returns c = of-nothing _ _ (c .not-read .ensures)
 
 open-read-requires : tie.Need-open-read-requires
 open-read-requires c κs = search needs
@@ -15,11 +28,8 @@ errno-requires c κs = search needs
 unread-requires : tie.Need-unread-requires
 unread-requires c κs = search needs
 
-returns : tie.Need-returns
-returns c = search needs
-
-slice-aggregate-read : tie.Need-slice-aggregate-read
-slice-aggregate-read c = search needs
+returns-2 : tie.Need-returns-2
+returns-2 c = of-nothing _ _ (c .unread .ensures)
 
 read-requires : tie.Need-read-requires
 read-requires c κs = search needs
@@ -33,11 +43,14 @@ close-requires c κs = search needs
 unread-requires-2 : tie.Need-unread-requires-2
 unread-requires-2 c κs = search needs
 
-returns-2 : tie.Need-returns-2
-returns-2 c = search needs
+same-length : tie.Need-same-length
+same-length c = search needs
 
-array-share-prefix-bytes : tie.Need-array-share-prefix-bytes
-array-share-prefix-bytes c = search needs
+returns-3 : tie.Need-returns-3
+returns-3 c = of-nothing _ _ (c .unread2 .ensures)
+
+slice-reshare-prefix-take-in : tie.Need-slice-reshare-prefix-take-in
+slice-reshare-prefix-take-in c = search needs
 
 slice-aggregate-take-in : tie.Need-slice-aggregate-take-in
 slice-aggregate-take-in c = simp length-take (omega arith)
@@ -45,9 +58,34 @@ slice-aggregate-take-in c = simp length-take (omega arith)
 take-in-requires : tie.Need-take-in-requires
 take-in-requires c κs = search needs
 
-returns-3 : tie.Need-returns-3
-returns-3 c = search needs
+same-length-2 : tie.Need-same-length-2
+same-length-2 c = search needs
+
+returns-4 : tie.Need-returns-4
+returns-4 c =
+    let got = c .before .before .before .before .before .before .before .before .read in
+    of-bytes _ (got .result .n) (got .last .1 .0) (c .take-in .ensures) (omega (arith, got .ensures, got .kept .1 .0))
 
 pub load-spec : {M : Type 1} → statement M
 load-spec =
-    tie.close (tie.spec open-read-requires errno-requires unread-requires returns slice-aggregate-read read-requires errno-requires-2 close-requires unread-requires-2 returns-2 array-share-prefix-bytes slice-aggregate-take-in take-in-requires returns-3)
+    tie.close
+    (tie.spec
+    slice-aggregate-say
+    say-requires
+    not-read-requires
+    returns
+    open-read-requires
+    errno-requires
+    unread-requires
+    returns-2
+    read-requires
+    errno-requires-2
+    close-requires
+    unread-requires-2
+    same-length
+    returns-3
+    slice-reshare-prefix-take-in
+    slice-aggregate-take-in
+    take-in-requires
+    same-length-2
+    returns-4)
