@@ -225,6 +225,11 @@ impl<W: Write> Sink for Waves<W> {
 /// `waves`: a trace in, its dump out; the whole program but for its message on standard error.
 /// With no row 0 nothing is written.
 pub fn waves(r: &Rules, input: impl Read, out: impl Write) -> Reading {
+    waves_from(r, Start::Fresh, input, out)
+}
+
+/// The same where a lesson goes on from an image: the dump of a lesson that was handed over.
+pub fn waves_from(r: &Rules, start: Start, input: impl Read, out: impl Write) -> Reading {
     let mut waves = Waves {
         out,
         buf: Vec::with_capacity(1 << 17),
@@ -236,7 +241,7 @@ pub fn waves(r: &Rules, input: impl Read, out: impl Write) -> Reading {
         stalled: false,
         refused: false,
     };
-    run(r, Start::Fresh, input, &mut waves)
+    run(r, start, input, &mut waves)
 }
 
 /// Why a dump got 9.

@@ -1,6 +1,7 @@
 //! The program `handover` of request K3 but for its files and standard error: a lesson saved as an image,
 //! a trace that goes on from one, an image in words.
 
+use crate::dump::waves_from;
 use crate::image::{Image, Untaken};
 use crate::rig::{majority, Rig};
 use crate::rules::{Rules, Slip};
@@ -114,6 +115,39 @@ pub fn handover(
         }
         _ => save(r, Start::From(&image), input, out),
     }
+}
+
+/// The line of the last good row of a trace, which is the one that its image is of; none with no row 0.
+struct LastLine(Option<u64>);
+
+impl Sink for LastLine {
+    fn row(&mut self, _: &Rules, label: u64, _: u8, _: &Row, _: &Rig) -> io::Result<()> {
+        self.0 = Some(label + 2);
+        Ok(())
+    }
+
+    fn refused(&mut self, _: &Ended) {}
+
+    fn end(&mut self, _: &Rules, _: bool) -> io::Result<()> {
+        Ok(())
+    }
+}
+
+pub fn last_line(r: &Rules, trace: &[u8]) -> Option<u64> {
+    let mut last = LastLine(None);
+    let _ = run(r, Start::Fresh, trace, &mut last);
+    last.0
+}
+
+/// The dump of a lesson that goes on from an image; what there is to say, if anything.
+pub fn waves_on_bytes(r: &Rules, image: &[u8], trace: &[u8]) -> (Vec<u8>, Option<Said>) {
+    let image = match Image::take(r, image) {
+        Ok(image) => image,
+        Err(untaken) => return (Vec::new(), Some(Said::Untaken(untaken))),
+    };
+    let mut out = Vec::new();
+    let ended = waves_from(r, Start::From(&image), trace, &mut out);
+    (out, ended.unwrap_or(None).map(Said::Ended))
 }
 
 /// In memory, for tests.

@@ -1,11 +1,11 @@
 // The program `replay`: a trace on standard input, its rows on standard output (document 01, "The trace and its program").
-// All that can be wrong is in the libraries `reading` and `lesson`; here is its line buffer of 512 bytes, and the library `running` reads and puts out.
-use reading::Run;
-
-// The name that this program goes by on standard error.
-const NAME: [u8; 6] = *b"replay";
+use libc::STDIN_FILENO;
+use libc::STDOUT_FILENO;
 
 fn main() {
-    let mut line = [0u8; 512];
-    running::rows(&NAME, Run::new(), &mut line);
+    if os::arg_count() == 1 {
+        commands::traces::replay(STDIN_FILENO, STDOUT_FILENO);
+        return;
+    }
+    words::say(b"replay", b"use: replay < TRACE");
 }

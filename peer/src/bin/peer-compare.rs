@@ -1,16 +1,17 @@
 //! `peer-compare SEED COUNT --bin DIR [--stdout-only] [--without NAME]..`: the traces of seeds SEED, SEED+1, .. over
 //! all kinds in turn, through `replay` and `waves` of DIR and through the peer, byte for byte; the dump of each and
 //! one more of each seed through `sheet`; the image of each, what goes on from it and one more image of each seed
-//! through `handover`; once, before them, what `wall` writes.
+//! through `handover`, and its dump through `waves`; once, before them, what `wall` writes and what bad use gets.
 use peer::damage::{dump, DUMP_KINDS};
 use peer::dump::{sheet_bytes, waves_bytes};
 use peer::gen::{trace, KINDS};
-use peer::handover::{handover_bytes, Said as Line, Task};
+use peer::handover::{handover_bytes, last_line, waves_on_bytes, Said as Line, Task};
 use peer::image::{layout, BYTES};
 use peer::image_gen::{image, second_trace, IMAGE_KINDS};
 use peer::page::check;
 use peer::rules::Rules;
 use peer::trace::replay_bytes;
+use peer::vectors::session_s;
 use peer::wall::{check_csv, ENTRIES, PLACES};
 use std::collections::HashMap;
 use std::io::{Read, Write};
@@ -75,8 +76,9 @@ fn differs(ran: &Ran, wanted: &[u8], said: &Said) -> Option<String> {
     if ran.out != wanted {
         return Some(first_difference(&ran.out, wanted));
     }
-    if ran.status != Some(0) {
-        return Some(format!("status {:?}, not 0", ran.status));
+    let status = i32::from(!ran.err.is_empty());
+    if ran.status != Some(status) {
+        return Some(format!("status {:?}, not {status}", ran.status));
     }
     let lines = ran.err.iter().filter(|&&b| b == b'\n').count();
     let text = ran.err.escape_ascii();
@@ -158,7 +160,7 @@ enum Wrong {
 #[derive(Clone, Copy, PartialEq, Eq, Hash)]
 #[rustfmt::skip]
 enum Sort {
-    Replay(usize), Waves, SheetOfRun, Sheet(usize),
+    Replay(usize), Waves, WavesOn, SheetOfRun, Sheet(usize),
     Save, ShowOfRun, Resume, SaveFrom, Show(usize),
 }
 
@@ -198,15 +200,31 @@ struct Job<'a> {
     /// How the input comes about, and its name there.
     make: String,
     file: &'static str,
+    /// A file that the program writes: its path, what it holds before and what it must hold after.
+    writes: Option<(String, Vec<u8>, Vec<u8>)>,
+}
+
+/// What a file that a program has written differs in, or nothing.
+fn file_differs(path: &str, wanted: &[u8]) -> Option<String> {
+    match std::fs::read(path) {
+        Ok(bytes) if bytes == wanted => None,
+        Ok(bytes) if bytes.len() == BYTES && wanted.len() == BYTES => Some(first_difference(&bytes, wanted)),
+        Ok(bytes) => Some(format!("{path} has {} bytes, not {}", bytes.len(), wanted.len())),
+        Err(e) => Some(format!("{path}: {e}")),
+    }
 }
 
 impl Job<'_> {
     fn compare(&self, stdout_only: bool) -> Result<(), Wrong> {
         let Job { program, told, peer, file, make, .. } = self;
         let said = if stdout_only { &Said::Anything } else { &self.said };
+        if let Some((path, before, _)) = &self.writes {
+            std::fs::write(path, before).map_err(|e| Wrong::NotRun(format!("{path}: {e}")))?;
+        }
         let ran = run(program, &self.args, &self.input)
             .map_err(|e| Wrong::NotRun(format!("{program} cannot be run: {e}")))?;
-        let Some(what) = differs(&ran, &self.wanted, said) else { return Ok(()) };
+        let of_file = self.writes.as_ref().and_then(|(path, _, after)| file_differs(path, after));
+        let Some(what) = of_file.or_else(|| differs(&ran, &self.wanted, said)) else { return Ok(()) };
         Err(Wrong::Different(format!(
             "{program}{told}: {what}
 to repeat it, in peer/:
@@ -225,6 +243,25 @@ to repeat it, in peer/:
         let lines = lines(&self.wanted).saturating_sub(header);
         Tally { count: 1, lines, refused: u64::from(self.refused) }
     }
+}
+
+/// What standard error need hold of what the peer says: which refusal an image got.
+fn holds(said: &Option<Line>) -> Option<String> {
+    said.as_ref().map(|line| match line {
+        Line::Untaken(untaken) => format!("refusal {}", untaken.refusal),
+        _ => String::new(),
+    })
+}
+
+/// A task of saving: the image is wanted in a file, which stays as it was where there is none, and standard output
+/// says of which line it is.
+fn job_saves<'a>(job: Job<'a>, path: &str, before: &[u8]) -> Job<'a> {
+    if job.wanted.is_empty() {
+        return Job { writes: Some((path.into(), before.into(), before.into())), ..job };
+    }
+    let line = last_line(&Rules::default(), &job.input).unwrap_or_default();
+    let said = format!("{path}: the lesson after line {line}\n").into_bytes();
+    Job { writes: Some((path.into(), before.into(), job.wanted)), wanted: said, ..job }
 }
 
 fn kind_of(seed: u64, kinds: &[&str]) -> usize {
@@ -272,6 +309,7 @@ impl Programs {
             refused,
             make: run.make.clone(),
             file: "trace.in",
+            writes: None,
         };
         let rows = replay_bytes(&rules, &run.trace).0;
         let mut jobs = vec![job(&self.replay[..], "peer-replay", Sort::Replay(run.kind), rows)];
@@ -295,41 +333,110 @@ impl Programs {
         jobs
     }
 
-    /// HANDOVER.
+    /// HANDOVER, and WAVES from an image.
     fn of_images(&self, run: &Run) -> Result<Vec<Job<'_>>, Wrong> {
         let Some(program) = &self.handover else { return Ok(Vec::new()) };
-        let rules = Rules::default();
+        let (rules, seed) = (Rules::default(), run.seed);
         let saved = handover_bytes(&rules, Task::Save, &run.trace).0;
-        let second = second_trace(run.seed, &saved);
-        let kind = kind_of(run.seed, &IMAGE_KINDS);
-        let made = image(run.seed, IMAGE_KINDS[kind]).unwrap();
+        let second = second_trace(seed, &saved);
+        let kind = kind_of(seed, &IMAGE_KINDS);
+        let made = image(seed, IMAGE_KINDS[kind]).unwrap();
+        let old = handover_bytes(&rules, Task::Save, &session_s()).0;
         let [saved_at, made_at] = [self.put("saved.img", &saved)?, self.put("made.img", &made)?];
+        let [new_at, same_at] = [self.put("new.img", &old)?, self.put("same.img", &saved)?];
 
-        let job = |sort, task, told: &'static str, at: Option<&String>, input: &[u8], make: String| {
+        let job = |sort, task, told: &'static str, args: &[&str], input: &[u8], make: String| {
             let (wanted, said) = handover_bytes(&rules, task, input);
-            // What is on standard error need only say which refusal an image got.
-            let holds = said.as_ref().map(|line| match line {
-                Line::Untaken(untaken) => format!("refusal {}", untaken.refusal),
-                _ => String::new(),
-            });
-            let word = told.split_whitespace().next().map(String::from);
-            let args = word.into_iter().chain(at.cloned()).collect();
-            let (refused, said) = (said.is_some(), Said::Line("handover", holds));
+            let args = args.iter().map(|word| word.to_string()).collect();
+            let (refused, said) = (said.is_some(), Said::Line("handover", holds(&said)));
             let (peer, file) = ("peer-handover", if input.is_empty() { "/dev/null" } else { "trace.in" });
-            Job { sort, program, args, told, peer, input: input.to_vec(), wanted, said, refused, make, file }
+            let input = input.to_vec();
+            Job { sort, program, args, told, peer, input, wanted, said, refused, make, file, writes: None }
         };
-        let seed = run.seed;
         let make_run = run.make.clone() + "  target/release/peer-handover save < trace.in > image.img\n";
         let make_second = format!("{make_run}  target/release/peer-gen {seed} onward image.img > trace.in\n");
         let make_made = format!("  target/release/peer-image-gen {seed} {} > image.img\n", IMAGE_KINDS[kind]);
-        let at = Some(&saved_at);
-        Ok(vec![
-            job(Sort::Save, Task::Save, " save", None, &run.trace, run.make.clone()),
-            job(Sort::ShowOfRun, Task::Show(&saved), " show image.img", at, b"", make_run),
-            job(Sort::Resume, Task::Resume(&saved), " resume image.img", at, &second, make_second.clone()),
-            job(Sort::SaveFrom, Task::SaveFrom(&saved), " save image.img", at, &second, make_second),
-            job(Sort::Show(kind), Task::Show(&made), " show image.img", Some(&made_at), b"", make_made),
-        ])
+        let mut jobs = vec![
+            job_saves(
+                job(Sort::Save, Task::Save, " save", &["save", &new_at], &run.trace, run.make.clone()),
+                &new_at,
+                &old,
+            ),
+            job(Sort::ShowOfRun, Task::Show(&saved), " show image.img", &["show", &saved_at], b"", make_run),
+            job(
+                Sort::Resume,
+                Task::Resume(&saved),
+                " resume image.img",
+                &["resume", &saved_at],
+                &second,
+                make_second.clone(),
+            ),
+            // One name for both: the image is read before it is replaced.
+            job_saves(
+                job(
+                    Sort::SaveFrom,
+                    Task::SaveFrom(&saved),
+                    " save image.img",
+                    &["save", &same_at, &same_at],
+                    &second,
+                    make_second.clone(),
+                ),
+                &same_at,
+                &saved,
+            ),
+            job(Sort::Show(kind), Task::Show(&made), " show image.img", &["show", &made_at], b"", make_made),
+        ];
+        if let Some(waves) = &self.waves {
+            let (wanted, said) = waves_on_bytes(&rules, &saved, &second);
+            jobs.push(Job {
+                sort: Sort::WavesOn,
+                program: waves,
+                args: vec![saved_at],
+                told: " image.img",
+                peer: "peer-waves",
+                input: second,
+                wanted,
+                refused: said.is_some(),
+                said: Said::Line("waves", holds(&said)),
+                make: make_second,
+                file: "trace.in",
+                writes: None,
+            });
+        }
+        Ok(jobs)
+    }
+
+    /// Words that a program does not take: nothing is written, and one line says how it is used.
+    fn of_bad_use(&self) -> Result<(), Wrong> {
+        let extra = |program: &Option<String>, words: &[&str]| {
+            program.clone().map(|program| (program, words.iter().map(|w| w.to_string()).collect::<Vec<_>>()))
+        };
+        let uses = [
+            extra(&Some(self.replay.clone()), &["lesson.in"]),
+            extra(&self.waves, &["lesson.img", "lesson.in"]),
+            extra(&self.sheet, &["lesson.vcd"]),
+            extra(&self.handover, &[]),
+            extra(&self.handover, &["save"]),
+            extra(&self.handover, &["show"]),
+            extra(&self.handover, &["load", "lesson.img"]),
+            extra(&self.handover, &["save", "a.img", "b.img", "c.img"]),
+            extra(&self.handover, &["resume", "a.img", "b.img"]),
+        ];
+        for (program, words) in uses.into_iter().flatten() {
+            let ran = run(&program, &words, b"")
+                .map_err(|e| Wrong::NotRun(format!("{program} cannot be run: {e}")))?;
+            let name = Path::new(&program).file_name().unwrap_or_default().to_string_lossy();
+            let name = ["replay", "waves", "sheet", "handover"].into_iter().find(|n| *n == name);
+            let said = match (self.stdout_only, name) {
+                (false, Some(name)) => Said::Line(name, Some("use: ".into())),
+                _ => Said::Anything,
+            };
+            if let Some(what) = differs(&ran, b"", &said) {
+                let told = [&[program], &words[..]].concat().join(" ");
+                return Err(Wrong::Different(format!("{told}: {what}")));
+            }
+        }
+        Ok(())
     }
 
     /// WALL: its CSV, its page, and what it says to bad use. It is not asked with an input.
@@ -391,6 +498,8 @@ fn show(programs: &Programs, tallies: &Tallies) {
         Some(_) => {
             let t = of(Sort::Waves);
             println!("{:12} {:7} dumps  {:10} lines equal", "waves", t.count, t.lines);
+            let t = of(Sort::WavesOn);
+            println!("{:12} {:7} dumps  {:10} lines equal", "waves IMAGE", t.count, t.lines);
         }
         None => println!("waves        left out"),
     }
@@ -412,8 +521,8 @@ fn show(programs: &Programs, tallies: &Tallies) {
         return;
     }
     for (name, sort, what) in [
-        ("save", Sort::Save, "ended by a refusal or without row 0"),
-        ("save IMAGE", Sort::SaveFrom, "so, or the image not taken"),
+        ("save NEW", Sort::Save, "ended by a refusal or without row 0"),
+        ("save SAME SAME", Sort::SaveFrom, "so, or the image not taken"),
     ] {
         let t = of(sort);
         println!("{name:15} {:4} images equal, {} {what}", t.count, t.refused);
@@ -438,6 +547,7 @@ fn main() -> ExitCode {
     let mut tallies = Tallies::default();
     let mut compare = || {
         programs.of_wall().map_err(|wrong| (String::new(), wrong))?;
+        programs.of_bad_use().map_err(|wrong| (String::new(), wrong))?;
         (seed..seed + count).try_for_each(|seed| {
             programs.seed(seed, &mut tallies).map_err(|wrong| (format!("seed {seed}: "), wrong))
         })

@@ -1,0 +1,76 @@
+-- What each word of the programs does with what the reads left: the whole run of its task, from a fresh start or from the controller of an
+-- image; and what is said on standard output beside it.
+-- Assumes nothing.
+use Prim.Native.Nat.{ℕ, _≤_}
+use mathlib.Core.Bool.{Bool, cond}
+use mathlib.Core.List.{List, [], _∷_, _++_}
+use mathlib.Core.Path.{_≡_}
+use lib.Dec.{T, leb}
+use lib.ListN.{length}
+use Rattle.common.specs.Ascii.{ascii, lf}
+use Rattle.common.specs.Decimal.{decimal}
+use Rattle.controller.specs.declared.State.{State}
+use Rattle.controller.specs.Start.{freshOf}
+use Rattle.reading.specs.Rows.{hasStarted}
+use Rattle.plain.specs.Plain.{plainOf}
+use Rattle.saving.specs.declared.Loaded.{Loaded}
+use Rattle.saving.specs.Loading.{loadedOf}
+use Rattle.running.specs.declared.Task.{Task}
+use Rattle.running.specs.declared.Task.the-variants.{Image}
+use Rattle.running.specs.declared.Ran.{Ran}
+use Rattle.running.specs.Works.{workOf, wholeOf}
+use Rattle.running.specs.Loops.{Through}
+use Rattle.commands.specs.declared.images.Saved.{Saved}
+use Rattle.commands.specs.declared.images.Shown.{Shown}
+
+-- ---- From a controller
+
+-- The whole run of a task from a controller, with all that the reads left, where it went well.
+abbrev pub RanFrom : Task → State → Ran → Type 0
+RanFrom task state ran = T (ran .well) → Through 0 (wholeOf (workOf task state)) ran
+
+-- There are bytes that this is the loading of.
+abbrev pub LoadedFrom : Loaded → Type 0
+LoadedFrom loaded = (bytes : List ℕ) × (loaded ≡ loadedOf bytes)
+
+-- An image that was taken: where a run from an image went well, there was one, and the run is from the controller that it is of.
+pub record Onward (task : Task) (ran : Ran) : Type 0 where
+  pub image : List ℕ
+  pub taken : T (loadedOf image .taken)
+  pub whole : RanFrom task (loadedOf image .state) ran
+
+-- ---- Saving
+
+-- The run of the trace from a controller; an image is saved only where it went well and row 0 was read.
+pub record SavedFrom (state : State) (answer : Saved) : Type 0 where
+  pub whole : RanFrom Image state (answer .ran)
+  pub only-then : T (answer .saved) → T (answer .ran .well) × T (hasStarted (answer .ran .work .run .reading .phase))
+
+-- The same from an image, of which there was one where anything was run.
+pub record SavedOnward (answer : Saved) : Type 0 where
+  pub image : List ℕ
+  pub taken : T (answer .ran .well) → T (loadedOf image .taken)
+  pub right : SavedFrom (loadedOf image .state) answer
+
+-- What is said of an image that was saved: its path, and of which line it is.
+unfoldable pub savedText : List ℕ → ℕ → List ℕ
+savedText path line = path ++ ascii ": the lesson after line " ++ decimal line ++ lf ∷ []
+
+-- ---- Showing
+
+-- An image of which every item is 0 is told as such, behind its words.
+abbrev pub blankText : Bool → List ℕ
+blankText blank = cond blank (ascii "every item of this image is 0, as a lost write leaves it" ++ lf ∷ []) []
+
+unfoldable pub shownText : Loaded → List ℕ
+shownText loaded = plainOf (loaded .state) ++ blankText (loaded .blank)
+
+-- A text has so many bytes, where it has at most 65,536; the programs lend so much for it.
+abbrev pub asLong : List ℕ → ℕ
+asLong text = cond (leb (length text) 65536) (length text) 0
+
+-- So many bytes were put out as the text has, where it went well.
+pub record ShownRight (answer : Shown) : Type 0 where
+  pub image : List ℕ
+  pub taken : T (loadedOf image .taken)
+  pub counted : length (shownText (loadedOf image)) ≤ 4096 → answer .put ≡ length (shownText (loadedOf image))

@@ -1,0 +1,33 @@
+// The sequence on the wall (request K4): `wall csv` and `wall page`.
+ghost use mathlib.Core.Path.{_≡_};
+ghost use Rattle.chart.specs.Csv.{csvText};
+ghost use Rattle.chart.specs.Page.{pageText};
+ghost use Rattle.commands.specs.Words.{asLong};
+use crate::images::Shown;
+
+// The name that the program goes by on standard error.
+const NAME: [u8; 4] = *b"wall";
+
+// `wall csv`: the 512 entries as CSV.
+pub fn csv(to: i32) -> Shown
+    ensures { λ r. ⌜ r .put ≡ asLong csvText ⌝ }
+{
+    let mut out = io::large_buffer();
+    let put = chart::csv::put_table(&mut out, 0);
+    Shown {
+        well: words::put(&NAME, to, &out, put),
+        put,
+    }
+}
+
+// `wall page`: a page to print.
+pub fn page(to: i32) -> Shown
+    ensures { λ r. ⌜ r .put ≡ asLong pageText ⌝ }
+{
+    let mut out = io::large_buffer();
+    let put = chart::page::put_page(&mut out, 0);
+    Shown {
+        well: words::put(&NAME, to, &out, put),
+        put,
+    }
+}
