@@ -27,25 +27,20 @@ fn title(what: &[u8]) {
     words::put(b"trial", STDOUT_FILENO, what, what.len());
 }
 
-fn replay() {
+// The lesson by `replay` and `waves`, and a dump by `sheet`.
+fn lesson() {
     title(b"== replay < lesson.in\n");
-    let fd = os::open_read(&LESSON);
-    traces::replay(fd, STDOUT_FILENO);
-    libc::close(fd);
-}
-
-fn waves() {
+    let rows = os::open_read(&LESSON);
+    traces::replay(rows, STDOUT_FILENO);
+    libc::close(rows);
     title(b"== waves < lesson.in\n");
-    let fd = os::open_read(&LESSON);
-    traces::waves(fd, STDOUT_FILENO);
-    libc::close(fd);
-}
-
-fn sheet() {
+    let moments = os::open_read(&LESSON);
+    traces::waves(moments, STDOUT_FILENO);
+    libc::close(moments);
     title(b"== sheet < long.vcd\n");
-    let fd = os::open_read(&DUMP);
-    traces::sheet(fd, STDOUT_FILENO);
-    libc::close(fd);
+    let dump = os::open_read(&DUMP);
+    traces::sheet(dump, STDOUT_FILENO);
+    libc::close(dump);
 }
 
 fn save() {
@@ -53,6 +48,7 @@ fn save() {
     let fd = os::open_read(&FIRST);
     images::save(fd, STDOUT_FILENO, &IMAGE);
     libc::close(fd);
+    show();
 }
 
 fn show() {
@@ -60,64 +56,45 @@ fn show() {
     images::show(STDOUT_FILENO, &IMAGE);
 }
 
-fn resume() {
+// The lesson goes on from the image, and is handed over again under the same name.
+fn onward() {
     title(b"== handover resume lesson.img < onward.in\n");
-    let fd = os::open_read(&ONWARD);
-    images::resume(fd, STDOUT_FILENO, &IMAGE);
-    libc::close(fd);
-}
-
-fn waves_onward() {
+    let rows = os::open_read(&ONWARD);
+    images::resume(rows, STDOUT_FILENO, &IMAGE);
+    libc::close(rows);
     title(b"== waves lesson.img < onward.in\n");
-    let fd = os::open_read(&ONWARD);
-    images::waves(fd, STDOUT_FILENO, &IMAGE);
-    libc::close(fd);
-}
-
-fn save_onward() {
+    let moments = os::open_read(&ONWARD);
+    images::waves(moments, STDOUT_FILENO, &IMAGE);
+    libc::close(moments);
     title(b"== handover save lesson.img lesson.img < onward.in\n");
-    let fd = os::open_read(&ONWARD);
-    images::save_onward(fd, STDOUT_FILENO, &IMAGE, &IMAGE);
-    libc::close(fd);
+    let again = os::open_read(&ONWARD);
+    images::save_onward(again, STDOUT_FILENO, &IMAGE, &IMAGE);
+    libc::close(again);
+    show();
 }
 
-// Where nothing is read there is nothing to save, and the image is as it was.
-fn save_nothing() {
+// Where nothing is read there is nothing to save, and the image is as it was; a torn last row does not lose the lesson.
+fn kept() {
     title(b"== handover save lesson.img < /dev/null\n");
-    let fd = os::open_read(b"/dev/null");
-    images::save(fd, STDOUT_FILENO, &IMAGE);
-    libc::close(fd);
-}
-
-// A torn last row does not lose the lesson.
-fn save_torn() {
+    let nothing = os::open_read(b"/dev/null");
+    images::save(nothing, STDOUT_FILENO, &IMAGE);
+    libc::close(nothing);
+    show();
     title(b"== handover save torn.img < torn.in\n");
-    let fd = os::open_read(&TORN);
-    images::save(fd, STDOUT_FILENO, &TORN_IMAGE);
-    libc::close(fd);
+    let torn = os::open_read(&TORN);
+    images::save(torn, STDOUT_FILENO, &TORN_IMAGE);
+    libc::close(torn);
     title(b"== handover show torn.img\n");
     images::show(STDOUT_FILENO, &TORN_IMAGE);
 }
 
-fn wall() {
+fn main() {
+    lesson();
+    save();
+    onward();
+    kept();
     title(b"== wall csv\n");
     walls::csv(STDOUT_FILENO);
     title(b"== wall page\n");
     walls::page(STDOUT_FILENO);
-}
-
-fn main() {
-    replay();
-    waves();
-    sheet();
-    save();
-    show();
-    resume();
-    waves_onward();
-    save_onward();
-    show();
-    save_nothing();
-    show();
-    save_torn();
-    wall();
 }
