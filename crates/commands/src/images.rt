@@ -155,7 +155,9 @@ fn keep(to: i32, new: &[u8], run: Run) -> bool {
 fn tell(to: i32, new: &[u8], line: u64) {
     let mut out = [0u8; 4352];
     let end = put_told(&mut out, new, line);
-    words::put(&HANDOVER, to, &out, end);
+    if !words::put(&HANDOVER, to, &out, end) {
+        saving::say_of(&HANDOVER, new, b"it is saved all the same");
+    }
 }
 
 // Puts of which line the image at a path is.

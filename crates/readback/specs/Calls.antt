@@ -17,7 +17,7 @@ use Rattle.readback.specs.Reads.{isBad, complete, begins, momentOf, befo
 
 -- ---- Up to the byte that is refused
 
--- How many bytes are read: those in front of the byte that no dump has there, or all.
+-- How many bytes are read: those in front of the byte that is refused, or all.
 unfoldable pub readUpTo : Reader → List ℕ → ℕ
 readUpTo r [] = 0
 readUpTo r (b ∷ bytes) = cond (isBad (byteOf r b .place)) 0 (suc (readUpTo (byteOf r b) bytes))
@@ -30,7 +30,8 @@ Given = List Moment × ℕ
 abbrev pub ahead : Moment → Given → Given
 ahead m others = (m ∷ others .0, others .1)
 
--- The moments that are complete in front of the byte that no dump has there, or of the end.
+-- All moments of a dump; of what is no dump, those behind which the next one has begun in front of the byte that is refused. (A moment is given
+-- when the next one begins, or at the end of a dump.)
 unfoldable pub givenFrom : Reader → List ℕ → Given
 givenFrom r [] = cond (complete r) (momentOf r ∷ [], 0) ([], 9)
 givenFrom r (b ∷ bytes) =

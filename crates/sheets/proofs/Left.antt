@@ -106,7 +106,7 @@ nine-exactly-left bytes = (forth (eqb n 0) refl, back (eqb n 0) refl) where
   back true e h = refusal-gives-nothing (sym h ∙ read-is-given bytes ∙ ap (λ (t : Bool). cond t (gives ms) (refuses n)) e)
   back false e h = left-nine bytes ∙ ap not e
 
--- So the line that a program names is that of the 9.
+-- So there is a 9 exactly where one ended the run; the line that a program names is its line modulo 2 ^ 64 (`left-line`).
 pub nine-is-at : (bytes : List ℕ) → nineAt bytes ≡ cond (toCome newSheet bytes .1 .nine) (some (lineOf bytes)) none
 unfolding nineAt
 nine-is-at bytes = rw (left-nine bytes) (by-test (eqb (givenOf bytes .1) 0)) where

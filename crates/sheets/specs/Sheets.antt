@@ -51,8 +51,8 @@ sheetRows (m ∷ ms) = sheetRow (m .time) (m .values) ++ sheetRows ms
 
 -- ---- The whole run
 
--- What is written for the bytes of the input: the header in every case, and the rows of the moments that are complete in front of the
--- byte that no dump has there, or of the end.
+-- What is written for the bytes of the input: the header in every case, and the rows of all moments of a dump; of what is
+-- no dump, those behind which the next one has begun in front of the byte that is refused.
 unfoldable pub sheetOf : List ℕ → List ℕ
 sheetOf bytes = sheetHeader ++ sheetRows (givenOf bytes .0)
 

@@ -48,6 +48,8 @@ enum Said {
     Something(bool),
     /// Nothing, or one line that begins with the program's name and has this in it.
     Line(&'static str, Option<String>),
+    /// Lines of which the last says that nothing was saved.
+    Unsaved,
 }
 
 /// The first difference of two outputs: of images by item, of all else by line.
@@ -97,6 +99,11 @@ fn differs(ran: &Ran, wanted: &[u8], said: &Said) -> Option<String> {
             let one = lines == 1 && line.ends_with('\n');
             let plain = one && line.starts_with(&format!("{name}: ")) && line.contains(&holds[..]);
             (!plain).then(|| format!("not one line `{name}: ..{holds}..` on standard error: {text}"))
+        }
+        Said::Unsaved => {
+            let said = String::from_utf8_lossy(&ran.err);
+            let last = said.lines().last().unwrap_or_default();
+            (!last.contains("nothing was saved")).then(|| format!("not said that nothing was saved: {text}"))
         }
         _ => None,
     }
@@ -257,7 +264,8 @@ fn holds(said: &Option<Line>) -> Option<String> {
 /// says of which line it is.
 fn job_saves<'a>(job: Job<'a>, path: &str, before: &[u8]) -> Job<'a> {
     if job.wanted.is_empty() {
-        return Job { writes: Some((path.into(), before.into(), before.into())), ..job };
+        let writes = Some((path.into(), before.into(), before.into()));
+        return Job { writes, said: Said::Unsaved, ..job };
     }
     let line = last_line(&Rules::default(), &job.input).unwrap_or_default();
     let said = format!("{path}: the lesson after line {line}\n").into_bytes();
