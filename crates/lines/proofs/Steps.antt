@@ -1,5 +1,6 @@
 -- What one byte does by the rule `cutFrom`, in the words of the code's tests: each is the rule's own line with its tests told.
 -- Then the same of all bytes in front of a CR, byte by byte: they are found by one search and stored by one copy.
+-- Last, what one byte does to that search.
 -- Assumes nothing.
 use Prim.Native.Nat.{ℕ, zero, suc, _+_, _-_, _<_, _≤_}
 use mathlib.Core.Bool.{Bool, true, false, _&&_, and-false}
@@ -11,7 +12,7 @@ use native.Mathlib.Omega.{arith}
 use borrow.Author.Tests.{eq-eqb, ne-eqb, eqb-false, lt-ltb, le-ltb}
 use lib.Dec.{eqb}
 use lib.ListN.{length, take, drop, getD, set, drop-of-length-le, length-take, length-drop, length-set}
-use lib.Seq.{sets, sets-eq, take-all, take-length, length-take-le, take-add, drop-at, drop-cons, drop-drop}
+use lib.Seq.{sets, sets-eq, take-all, take-length, length-take-le, take-add, drop-at, drop-cons, drop-drop, slice-cons}
 use Rattle.bytes.specs.Bytes.{slice, indexOf, indexAfter}
 use Rattle.common.specs.Ascii.{cr, lf}
 use Rattle.lines.specs.Cuts.{empty, lfFirst, cutFrom}
@@ -125,3 +126,26 @@ bytes-at part line from n m end r d hp hl found hm er ed =
     let ek : end - from ≡ k = omega (arith, rw (slice-take from m part h) at found) in
     let et : length t ≡ k = simp (length-take, length-drop) (omega arith) in
     rw (ed, copied line t n (omega arith), er, et, ek, ← drop-drop k from part) (on-bytes (length part) m (drop from part) line n hl)
+
+-- ---- The search for a CR
+
+-- A search from `from` on and in front of `to` is at place `i`: what it is to find is what is to be found from there on.
+pub record Searched (s : List ℕ) (from to i : ℕ) : Type 0 where
+  pub within : to ≤ length s
+  pub inside : i ≤ to
+  pub same : from + indexOf cr (slice from to s) ≡ i + indexOf cr (slice i to s)
+
+-- One byte of the search: it is the CR, or the search goes on at the next place, `j`.
+module _ {s : List ℕ} {from to i : ℕ} (p : Searched s from to i) (h : i < to) where
+  pub cr-here : getD s i 0 ≡ cr → (i ≡ from + indexOf cr (slice from to s)) × (i ≤ to)
+  unfolding slice indexOf indexAfter
+  cr-here e = (sym (p .same ∙ rw (slice-cons i to s 0 h (p .within), eq-eqb (getD s i 0) cr e, add-zero)), p .inside)
+
+  pub cr-past : {j : ℕ} → suc i ≡ j → (getD s i 0 ≡ cr → ⊥) → Searched s from to j
+  unfolding slice indexOf indexAfter
+  cr-past {j} e n =
+      record {
+        within = p .within;
+        inside = omega arith;
+        same = p .same ∙ rw (← e, slice-cons i to s 0 h (p .within), ne-eqb (getD s i 0) cr n) (omega arith);
+      }

@@ -6,6 +6,7 @@ ghost use mathlib.Core.Path.{_≡_};
 ghost use Prim.Native.Nat.{_+_, _≤_, min};
 ghost use mathlib.Core.List.{_∷_};
 ghost use lib.ListN.{length, drop};
+ghost use Rattle.bytes.specs.Bytes.{indexOf, slice};
 ghost use Rattle.common.specs.Ascii.{cr};
 ghost use Rattle.lines.specs.Cuts.{cutFrom, cutOf, lastOf};
 
@@ -73,6 +74,32 @@ fn within(len: usize, most: usize) -> usize
     most
 }
 
+// The place of the next CR in front of `to`, or `to`: four bytes a turn, since every byte of every row comes by here.
+fn next_cr(part: &[u8], from: usize, to: usize) -> usize
+    requires { ⌜ from ≤ to ⌝ }
+    requires { ⌜ to ≤ length (now part) ⌝ }
+    ensures { λ r. ⌜ r ≡ from + indexOf cr (slice from to (now (part .entry))) ⌝ }
+    ensures { λ r. ⌜ r ≤ to ⌝ }
+{
+    let mut i = from;
+    while 4 <= to - i {
+        if part[i] == CR {
+            return i;
+        }
+        if part[i + 1] == CR {
+            return i + 1;
+        }
+        if part[i + 2] == CR {
+            return i + 2;
+        }
+        if part[i + 3] == CR {
+            return i + 3;
+        }
+        i += 4;
+    }
+    bytes::scan::find(part, i, to, CR)
+}
+
 // Takes in the bytes in front of the next CR, as many as are there and as the line has room for, and answers how many they
 // are: what was to be taken in is what is left after them.
 fn until_cr(part: &[u8], from: usize, line: &mut [u8], len: usize) -> usize
@@ -85,7 +112,7 @@ fn until_cr(part: &[u8], from: usize, line: &mut [u8], len: usize) -> usize
         ≡ cutFrom (length (now (part .entry))) (now (line .exit)) (len + r) (drop (from + r) (now (part .entry))) ⌝ }
 {
     let most = within(part.len() - from, line.len() - len);
-    let end = bytes::scan::find(part, from, from + most, CR);
+    let end = next_cr(part, from, from + most);
     bytes::copy(&part[from..end], &mut line[len..])
 }
 

@@ -19,11 +19,11 @@ sub-within-2 c = search needs
 within-requires : tie.Need-within-requires
 within-requires c κs = search needs
 
-add-find : tie.Need-add-find
-add-find c = search needs
+add-next-cr : tie.Need-add-next-cr
+add-next-cr c = search needs
 
-find-requires : tie.Need-find-requires
-find-requires c κs = search needs
+next-cr-requires : tie.Need-next-cr-requires
+next-cr-requires c κs = search needs
 
 sub-copy : tie.Need-sub-copy
 sub-copy c = search needs
@@ -53,14 +53,14 @@ returns : tie.Need-returns
 returns c =
     let a = c .before .before .before .before .before .before .before .before .before .args in
     let m = c .before .before .before .before .before .before .within .result in
-    let find = c .before .before .before .before .before .find in
+    let next = c .before .before .before .before .before .next-cr in
     let copy = c .before .before .copy in
-    let e : copy .result ≡ find .result - a .from = copy .ensures .0 ∙ simp (length-take, length-drop) (omega arith) in (
+    let e : copy .result ≡ next .result - a .from = copy .ensures .0 ∙ simp (length-take, length-drop) (omega arith) in (
       omega arith,
       (
         omega arith,
-        bytes-at (a .part .now) (a .line .now) (a .from) (a .len) m (find .result) (copy .result) (copy .last .1 .0) (omega arith) (omega arith)
-            (find .ensures .0) (find .ensures .1) (copy .ensures .0) (copy .ensures .1),
+        bytes-at (a .part .now) (a .line .now) (a .from) (a .len) m (next .result) (copy .result) (copy .last .1 .0) (omega arith) (omega arith)
+            (next .ensures .0) (next .ensures .1) (copy .ensures .0) (copy .ensures .1),
       ),
     )
 
@@ -71,8 +71,8 @@ until-cr-spec =
     sub-within
     sub-within-2
     within-requires
-    add-find
-    find-requires
+    add-next-cr
+    next-cr-requires
     sub-copy
     part-copy-start
     part-copy-end
