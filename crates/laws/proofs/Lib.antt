@@ -17,6 +17,4 @@ pub mod Ground
 pub mod Computing
 pub mod Worked
 pub mod Sometimes
-pub mod Printed
-pub mod CauseRuns
 pub mod Loading

@@ -10,8 +10,6 @@ pub mod Laws
 pub mod Cases
 pub mod Evenly
 pub mod Lesson
-pub mod AsPrinted
 pub mod HandedOver
 pub mod Wall
-pub mod CauseRuns
 pub mod Loading

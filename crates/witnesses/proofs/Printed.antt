@@ -12,8 +12,8 @@ use Rattle.sequence.specs.declared.Seen.{Seen}
 use Rattle.sequence.specs.Moves.{place, doorsToGears, moveOf}
 use Rattle.controller.specs.Shows.{red}
 use Rattle.controller.specs.Samples.{after}
 use Rattle.laws.specs.Bounds.{boundFor}
-use Rattle.laws.specs.AsPrinted.{
+use Rattle.witnesses.specs.AsPrinted.{
   printedMoveOf,
   printedSequence,
   printedStage,

@@ -12,13 +12,13 @@ use Rattle.controller.specs.declared.State.{State}
 use Rattle.controller.specs.Start.{freshOf}
 use Rattle.controller.specs.Samples.{Row, after}
 use Rattle.image.specs.Items.{lastCause}
 use Rattle.laws.specs.Reached.Reached.{fresh}
 use Rattle.laws.specs.Times.{next}
 use Rattle.laws.specs.Laws.{Sometimes, hasCause}
-use Rattle.laws.specs.CauseRuns.{causeRuns, lastCauses, FoundInTurn}
+use Rattle.witnesses.specs.CauseRuns.{causeRuns, lastCauses, FoundInTurn}
 use Rattle.laws.proofs.Tests.{by-cases}
 use Rattle.laws.proofs.Computing.{runs}
 use Rattle.laws.proofs.Sometimes.{after-is-reached}
 
 -- There is no cause before the last sample of each run, and the one of its number after it.
 pub each-cause-is-found : FoundInTurn 1 causeRuns

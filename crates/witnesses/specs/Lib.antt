@@ -1,0 +1,2 @@
+pub mod CauseRuns
+pub mod AsPrinted

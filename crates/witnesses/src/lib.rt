@@ -1,0 +1,2 @@
+// Computed runs that show that the laws speak of something, and no code: each of the thirteen causes is reached, and 001 as printed hangs.
+// They stand by themselves so that an edit of a law does not compute them again. What is claimed is specs/; the theorems are proofs/.
