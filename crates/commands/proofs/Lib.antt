@@ -1,2 +1,5 @@
+pub mod NoBytes
+pub mod Putting
+pub mod Told
 pub mod Runs
 pub mod Shows

@@ -4,18 +4,15 @@ use mathlib.Core.Bool.{Bool, true, false, not, true≢false}
 use mathlib.Core.Path.{_≡_, refl, ap, sym, subst, _∙_}
 use lib.Dec.{T}
 use Rattle.controller.specs.declared.State.{State}
-use Rattle.reading.specs.Rows.{hasStarted}
-use Rattle.saving.specs.declared.Loaded.{Loaded}
+use Rattle.commands.specs.declared.saving.Loaded.{Loaded}
 use Rattle.running.specs.declared.Task.{Task}
 use Rattle.running.specs.declared.Task.the-variants.{Image}
-use Rattle.running.specs.declared.Work.{Work}
 use Rattle.running.specs.declared.Ran.{Ran}
-use Rattle.running.specs.Works.{workOf, wholeOf}
-use Rattle.running.specs.Loops.{Through}
+use Rattle.running.specs.Loops.{RanFrom}
 use Rattle.commands.specs.declared.images.Saved.{Saved}
-use Rattle.commands.specs.Words.{RanFrom, LoadedFrom, Onward, SavedFrom, SavedOnward}
+use Rattle.commands.specs.Words.{LoadedFrom, Onward, SavedFrom, SavedOnward}
 
-holds : (t : Bool) → t ≡ true → T t
+pub holds : (t : Bool) → t ≡ true → T t
 holds t e = rw e tt
 
 -- What is not found wrong is right.
@@ -23,13 +20,7 @@ pub so : (t : Bool) → not t ≡ false → t ≡ true
 so true e = refl
 so false e = absurd (true≢false e)
 
--- The run of a work that is a task from a controller.
-pub ran-from : (task : Task) (state : State) (start : Work) (ran : Ran) → start ≡ workOf task state
-    → (T (ran .well) → Through 0 (wholeOf start) ran)
-    → RanFrom task state ran
-ran-from task state start ran e p = subst (λ (w : Work). T (ran .well) → Through 0 (wholeOf w) ran) e p
-
--- The same of the controller that an image is of.
+-- The run of a task from the controller that an image is of.
 pub onward : (task : Task) (loaded : Loaded) (ran : Ran) → LoadedFrom loaded → loaded .taken ≡ true
     → RanFrom task (loaded .state) ran
     → Onward task ran
@@ -45,13 +36,6 @@ pub not-saved : (state : State) (answer : Saved) (ran : Ran) → answer ≡ reco
     → SavedFrom state answer
 not-saved state answer ran e p =
     rw e (record { whole = p; only-then = λ (t : T false). absurd t })
-
--- An image was saved, or could not be, of a run that went well and read row 0.
-pub kept : (state : State) (ran : Ran) (saved : Bool) → ran .well ≡ true → hasStarted (ran .work .run .reading .phase) ≡ true
-    → RanFrom Image state ran
-    → SavedFrom state (record { saved = saved; ran = ran })
-kept state ran saved well started p =
-    record { whole = p; only-then = λ t. (holds _ well, holds _ started) }
 
 -- From an image that was taken.
 pub saved-onward : (loaded : Loaded) (answer : Saved) → LoadedFrom loaded → loaded .taken ≡ true → SavedFrom (loaded .state) answer

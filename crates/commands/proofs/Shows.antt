@@ -2,13 +2,14 @@
 -- Assumes nothing.
 use Prim.Native.Nat.{ℕ, _+_, _≤_}
 use native.Mathlib.Omega.{arith}
-use mathlib.Core.Bool.{Bool, true, false, cond}
+use mathlib.Core.Bool.{Bool, true, false}
 use mathlib.Core.List.{List, _++_, append-nil}
-use mathlib.Core.Path.{_≡_, refl, ap, sym, subst, _∙_}
+use mathlib.Core.Path.{_≡_, sym, subst}
+use borrow.Author.Tests.{le-leb}
 use lib.Dec.{T, leb}
-use lib.ListN.{length, take, drop}
+use lib.ListN.{length}
 use Rattle.texts.specs.Puts.{putOf, PutIfRoom}
-use Rattle.saving.specs.declared.Loaded.{Loaded}
+use Rattle.commands.specs.declared.saving.Loaded.{Loaded}
 use Rattle.plain.specs.Plain.{plainOf}
 use Rattle.commands.specs.declared.images.Shown.{Shown}
 use Rattle.commands.specs.Words.{LoadedFrom, blankText, shownText, ShownRight}
@@ -22,18 +23,12 @@ pub no-blank-shown : (loaded : Loaded) → loaded .blank ≡ false → plainOf (
 unfolding shownText
 no-blank-shown loaded e = rw e (sym (append-nil (plainOf (loaded .state))))
 
--- Into a buffer of so many bytes.
-first-of : (t : Bool) (x y : ℕ × List ℕ) → cond t x y .0 ≡ cond t (x .0) (y .0)
-first-of true x y = refl
-first-of false x y = refl
-
-pub put-length : (out text : List ℕ) (size : ℕ) → length out ≡ size → putOf out 0 text .0 ≡ cond (leb (length text) size) (length text) 0
+-- Into a buffer that has room.
+pub all-put : (out text : List ℕ) → length text ≤ length out → putOf out 0 text .0 ≡ length text
 unfolding putOf
-put-length out text size long =
-    let end = 0 + length text in
-    let same : end ≡ length text = omega arith in
-    first-of (leb end (length out)) (end, take 0 out ++ text ++ drop end out) (0, out)
-    ∙ rw long (ap (λ (n : ℕ). cond (leb n size) n 0) same)
+all-put out text fits =
+    let room : leb (0 + length text) (length out) ≡ true = le-leb (0 + length text) (length out) (omega arith) in
+    rw room (omega arith)
 
 -- An image that was taken, in words.
 pub shows : {out after : List ℕ} {n : ℕ} (loaded : Loaded) (well : Bool) → LoadedFrom loaded → loaded .taken ≡ true → 4096 ≡ length out

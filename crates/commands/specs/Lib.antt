@@ -1,1 +1,3 @@
+pub mod Loading
+pub mod Messages
 pub mod Words

@@ -5,7 +5,7 @@ use Prim.Native.Nat.{ℕ, _≤_}
 use mathlib.Core.Bool.{Bool, cond}
 use mathlib.Core.List.{List, [], _∷_, _++_}
 use mathlib.Core.Path.{_≡_}
-use lib.Dec.{T, leb}
+use lib.Dec.{T}
 use lib.ListN.{length}
 use Rattle.common.specs.Ascii.{ascii, lf}
 use Rattle.common.specs.Decimal.{decimal}
@@ -13,21 +13,16 @@ use Rattle.controller.specs.declared.State.{State}
 use Rattle.controller.specs.Start.{freshOf}
 use Rattle.reading.specs.Rows.{hasStarted}
 use Rattle.plain.specs.Plain.{plainOf}
-use Rattle.saving.specs.declared.Loaded.{Loaded}
-use Rattle.saving.specs.Loading.{loadedOf}
+use Rattle.commands.specs.declared.saving.Loaded.{Loaded}
+use Rattle.commands.specs.Loading.{loadedOf}
 use Rattle.running.specs.declared.Task.{Task}
 use Rattle.running.specs.declared.Task.the-variants.{Image}
 use Rattle.running.specs.declared.Ran.{Ran}
-use Rattle.running.specs.Works.{workOf, wholeOf}
-use Rattle.running.specs.Loops.{Through}
+use Rattle.running.specs.Loops.{RanFrom}
 use Rattle.commands.specs.declared.images.Saved.{Saved}
 use Rattle.commands.specs.declared.images.Shown.{Shown}
 
 -- ---- From a controller
-
--- The whole run of a task from a controller, with all that the reads left, where it went well.
-abbrev pub RanFrom : Task → State → Ran → Type 0
-RanFrom task state ran = T (ran .well) → Through 0 (wholeOf (workOf task state)) ran
 
 -- There are bytes that this is the loading of.
 abbrev pub LoadedFrom : Loaded → Type 0
@@ -64,10 +59,6 @@ blankText blank = cond blank (ascii "every item of this image is 0, as a lost wr
 
 unfoldable pub shownText : Loaded → List ℕ
 shownText loaded = plainOf (loaded .state) ++ blankText (loaded .blank)
-
--- A text has so many bytes, where it has at most 65,536; the programs lend so much for it.
-abbrev pub asLong : List ℕ → ℕ
-asLong text = cond (leb (length text) 65536) (length text) 0
 
 -- So many bytes were put out as the text has, where it went well.
 pub record ShownRight (answer : Shown) : Type 0 where

@@ -5,14 +5,17 @@ ghost use lib.Dec.{T};
 ghost use Rattle.texts.specs.Puts.{PutIfRoom};
 ghost use Rattle.running.specs.declared.Task.the-variants.{Rows, Waves};
 ghost use Rattle.controller.specs.Start.{freshOf};
+ghost use Rattle.reading.specs.Rows.{hasStarted};
 ghost use Rattle.commands.specs.Words.{LoadedFrom, Onward, SavedFrom, SavedOnward, savedText, shownText, ShownRight};
+use crate::saving;
+use crate::saving::Loaded;
+use crate::saving::ROOM;
 use controller::State;
 use image::SIZE;
 use reading::Run;
 use running::Ran;
+use running::Task;
 use running::Work;
-use saving::Loaded;
-use saving::ROOM;
 
 // The names that the programs go by on standard error.
 const HANDOVER: [u8; 8] = *b"handover";
@@ -54,22 +57,14 @@ pub fn save_onward(from: i32, to: i32, new: &[u8], old: &[u8]) -> Saved
 pub fn resume(from: i32, to: i32, image: &[u8]) -> Ran
     ensures { λ r. ⌜ (T (r .well) → Onward Rows r) ⌝ }
 {
-    let loaded = load(&HANDOVER, image);
-    if loaded.taken {
-        return running::run(&HANDOVER, from, to, Work::rows(loaded.state));
-    }
-    not_run()
+    onward(&HANDOVER, from, to, Task::Rows, image)
 }
 
 // `waves IMAGE`: the dump of a trace that goes on from an image.
 pub fn waves(from: i32, to: i32, image: &[u8]) -> Ran
     ensures { λ r. ⌜ (T (r .well) → Onward Waves r) ⌝ }
 {
-    let loaded = load(&WAVES, image);
-    if loaded.taken {
-        return running::run(&WAVES, from, to, Work::waves(loaded.state));
-    }
-    not_run()
+    onward(&WAVES, from, to, Task::Waves, image)
 }
 
 // `handover show IMAGE`: an image in plain words.
@@ -89,6 +84,17 @@ pub fn show(to: i32, image: &[u8]) -> Shown
         well: words::put(&HANDOVER, to, &out, put),
         put,
     }
+}
+
+// A task from the controller of an image.
+fn onward(name: &[u8], from: i32, to: i32, task: Task, image: &[u8]) -> Ran
+    ensures { λ r. ⌜ (T (r .well) → Onward task r) ⌝ }
+{
+    let loaded = load(name, image);
+    if loaded.taken {
+        return running::run(name, from, to, task, loaded.state);
+    }
+    not_run()
 }
 
 // Loads the image that stands at a path. Of one in which every item is 0 a line on standard error says so.
@@ -114,26 +120,37 @@ fn read(name: &[u8], path: &[u8]) -> Loaded
     saving::load(name, path, &mut bytes)
 }
 
-// Runs the trace from a controller, and puts the image of its last state at a path.
+// Runs the trace from a controller, and puts the image of its last state at a path. Where no image may stand there that is said before the trace
+// is read, and not when a lesson is over.
 fn save_from(from: i32, to: i32, new: &[u8], state: State) -> Saved
     ensures { λ r. ⌜ SavedFrom state r ⌝ }
 {
-    let ran = running::run(&HANDOVER, from, to, Work::image(state));
+    if !saving::may_replace(&HANDOVER, new) {
+        return unsaved(not_run());
+    }
+    let ran = running::run(&HANDOVER, from, to, Task::Image, state);
+    Saved {
+        saved: save_left(to, new, ran),
+        ran,
+    }
+}
+
+// Puts the image of what a run of a trace left at a path, if it went well and row 0 was read; else says that nothing was saved.
+fn save_left(to: i32, new: &[u8], ran: Ran) -> bool
+    ensures { λ r. ⌜ (T r → T (ran .well) × T (hasStarted (ran .work .run .reading .phase))) ⌝ }
+{
     if !ran.well {
         saving::say_of(&HANDOVER, new, b"nothing was saved");
-        return unsaved(ran);
+        return false;
     }
     let work = ran.work;
     let run = work.run;
     let phase = run.phase();
     if phase.has_started() {
-        return Saved {
-            saved: keep(to, new, run),
-            ran,
-        };
+        return keep(to, new, run);
     }
     saving::say_of(&HANDOVER, new, b"nothing was saved: the trace has no row 0");
-    unsaved(ran)
+    false
 }
 
 // Puts the image of a run's last state at a path, and says on the other descriptor of which line it is.
@@ -184,7 +201,7 @@ fn not_run() -> Ran
     Ran {
         well: false,
         end: false,
-        work: Work::rows(State::fresh(0)),
+        work: Work::from(State::fresh(0)),
         put: 0,
     }
 }

@@ -1,8 +1,8 @@
 // The sequence on the wall (request K4): `wall csv` and `wall page`.
 ghost use mathlib.Core.Path.{_≡_};
+ghost use lib.ListN.{length};
 ghost use Rattle.chart.specs.Csv.{csvText};
 ghost use Rattle.chart.specs.Page.{pageText};
-ghost use Rattle.commands.specs.Words.{asLong};
 use crate::images::Shown;
 
 // The name that the program goes by on standard error.
@@ -10,7 +10,7 @@ const NAME: [u8; 4] = *b"wall";
 
 // `wall csv`: the 512 entries as CSV.
 pub fn csv(to: i32) -> Shown
-    ensures { λ r. ⌜ r .put ≡ asLong csvText ⌝ }
+    ensures { λ r. ⌜ r .put ≡ length csvText ⌝ }
 {
     let mut out = io::large_buffer();
     let put = chart::csv::put_table(&mut out, 0);
@@ -22,7 +22,7 @@ pub fn csv(to: i32) -> Shown
 
 // `wall page`: a page to print.
 pub fn page(to: i32) -> Shown
-    ensures { λ r. ⌜ r .put ≡ asLong pageText ⌝ }
+    ensures { λ r. ⌜ r .put ≡ length pageText ⌝ }
 {
     let mut out = io::large_buffer();
     let put = chart::page::put_page(&mut out, 0);

@@ -4,7 +4,7 @@ use libc::STDOUT_FILENO;
 
 fn main() {
     if os::arg_count() == 1 {
-        commands::traces::replay(STDIN_FILENO, STDOUT_FILENO);
+        running::traces::replay(STDIN_FILENO, STDOUT_FILENO);
         return;
     }
     words::say(b"replay", b"use: replay < TRACE");

@@ -12,6 +12,8 @@ use Rattle.texts.specs.Puts.{Put, putOf}
 use Rattle.texts.proofs.Placing.{did-put, front-next, front-line}
 use Rattle.names.specs.Words.{sensorNames, orderNames, lampNames}
 use Rattle.output.specs.Rows.{headerText}
+use Rattle.loops.specs.declared.Progress.{Progress}
+use Rattle.loops.specs.Progresses.{takenIn}
 use Rattle.lesson.specs.declared.Took.{Took as RowsTook}
 use Rattle.lesson.specs.Writes.{told}
 use Rattle.lesson.specs.Parts.{fillOf as fillRows, finishOf as lastRow}
@@ -26,13 +28,11 @@ use Rattle.running.specs.declared.Task.{Task}
 use Rattle.running.specs.declared.Task.the-variants.{Rows, Image, Waves, Sheet}
 use Rattle.running.specs.declared.Work.{Work}
 use Rattle.running.specs.declared.Filled.{Filled}
-use Rattle.running.specs.declared.Place.{Place}
-use Rattle.running.specs.declared.Ran.{Ran}
+use Rattle.running.specs.declared.At.{At}
 use Rattle.running.specs.Works.{
   room,
   Answer,
   ofRows,
-  ofImage,
   ofWaves,
   ofSheet,
   rowsAnswer,
@@ -44,7 +44,7 @@ use Rattle.running.specs.Works.{
   lastBy,
   lastOf,
 }
-use Rattle.running.specs.Loops.{leftOf, filledPlace, lastPlace, AfterFill, AfterLast}
+use Rattle.running.specs.Loops.{leftOf, filledAt, lastAt, AfterFill, AfterLast}
 
 -- ---- The headers
 
@@ -64,11 +64,11 @@ told-put n out out′ text fits e =
 
 -- ---- By the task
 
-module _ (work : Work) (part line out line′ out′ : List ℕ) (r : Filled) where
+module _ (task : Task) (work : Work) (part line out line′ out′ : List ℕ) (r : Filled) where
   abbrev Fills : Type 0
-  Fills = ((r, line′, out′) ≡ fillOf work part line out) × ((r .used ≤ length part) × (r .written ≤ length out))
+  Fills = ((r, line′, out′) ≡ fillOf task work part line out) × ((r .used ≤ length part) × (r .written ≤ length out))
 
-  pub fills-rows : (took : RowsTook) → work .task ≡ Rows → r ≡ ofRows work took
+  pub fills-rows : (took : RowsTook) → task ≡ Rows → r ≡ ofRows work took (took .written)
       → (took, line′, out′) ≡ fillRows (work .run) part line out → (took .used ≤ length part) × (took .written ≤ length out) → Fills
   unfolding fillOf
   fills-rows took t e f lies = (
@@ -76,7 +76,7 @@ module _ (work : Work) (part line out line′ out′ : List ℕ) (r : Filled) wh
     rw e lies,
   )
 
-  pub fills-image : (took : RowsTook) → work .task ≡ Image → r ≡ ofImage work took
+  pub fills-image : (took : RowsTook) → task ≡ Image → r ≡ ofRows work took 0
       → (took, line′, out′) ≡ fillRows (work .run) part line out → (took .used ≤ length part) × (took .written ≤ length out) → Fills
   unfolding fillOf
   fills-image took t e f lies = (
@@ -84,7 +84,7 @@ module _ (work : Work) (part line out line′ out′ : List ℕ) (r : Filled) wh
     rw e (lies .0, omega arith),
   )
 
-  pub fills-waves : (waves : Run&Dump) (took : WavesTook) → work .task ≡ Waves → waves ≡ record { run = work .run; dump = work .dump }
+  pub fills-waves : (waves : Run&Dump) (took : WavesTook) → task ≡ Waves → waves ≡ record { run = work .run; dump = work .dump }
       → r ≡ ofWaves work took → (took, line′, out′) ≡ fillWaves waves part line out
       → (took .used ≤ length part) × (took .written ≤ length out) → Fills
   unfolding fillOf
@@ -96,32 +96,32 @@ module _ (work : Work) (part line out line′ out′ : List ℕ) (r : Filled) wh
   )
 
 -- (The line buffer is not a sheet's.)
-pub fills-sheet : (work : Work) (part line out out′ : List ℕ) (r : Filled) (took : SheetTook) → work .task ≡ Sheet → r ≡ ofSheet work took
+pub fills-sheet : (task : Task) (work : Work) (part line out out′ : List ℕ) (r : Filled) (took : SheetTook) → task ≡ Sheet → r ≡ ofSheet work took
     → (took, out′) ≡ fillSheet (work .sheet) part out → (took .used ≤ length part) × (took .written ≤ length out)
-    → Fills work part line out line out′ r
+    → Fills task work part line out line out′ r
 unfolding fillOf
-fills-sheet work part line out out′ r took t e f lies = (
+fills-sheet task work part line out out′ r took t e f lies = (
   ap (λ (x : Filled). (x, line, out′)) e ∙ ap (sheetAnswer work line) f ∙ sym (ap (λ (x : Task). fillBy x work part line out) t),
   rw e lies,
 )
 
-module _ (work : Work) (line out line′ out′ : List ℕ) (r : Filled) where
+module _ (task : Task) (work : Work) (line out line′ out′ : List ℕ) (r : Filled) where
   abbrev Lasts : Type 0
-  Lasts = ((r, line′, out′) ≡ lastOf work line out) × (r .written ≤ length out)
+  Lasts = ((r, line′, out′) ≡ lastOf task work line out) × (r .written ≤ length out)
 
-  pub lasts-rows : (took : RowsTook) → work .task ≡ Rows → r ≡ ofRows work took
+  pub lasts-rows : (took : RowsTook) → task ≡ Rows → r ≡ ofRows work took (took .written)
       → (took, line′, out′) ≡ lastRow (work .run) line out → took .written ≤ length out → Lasts
   unfolding lastOf
   lasts-rows took t e f lies =
       (ap (λ (x : Filled). (x, line′, out′)) e ∙ ap (rowsAnswer work) f ∙ sym (ap (λ (x : Task). lastBy x work line out) t), rw e lies)
 
-  pub lasts-image : (took : RowsTook) → work .task ≡ Image → r ≡ ofImage work took
+  pub lasts-image : (took : RowsTook) → task ≡ Image → r ≡ ofRows work took 0
       → (took, line′, out′) ≡ lastRow (work .run) line out → Lasts
   unfolding lastOf
   lasts-image took t e f =
       (ap (λ (x : Filled). (x, line′, out′)) e ∙ ap (imageAnswer work) f ∙ sym (ap (λ (x : Task). lastBy x work line out) t), rw e (omega arith))
 
-  pub lasts-waves : (waves : Run&Dump) (took : WavesTook) → work .task ≡ Waves → waves ≡ record { run = work .run; dump = work .dump }
+  pub lasts-waves : (waves : Run&Dump) (took : WavesTook) → task ≡ Waves → waves ≡ record { run = work .run; dump = work .dump }
       → r ≡ ofWaves work took → (took, line′, out′) ≡ lastMoment waves line out → took .written ≤ length out → Lasts
   unfolding lastOf
   lasts-waves waves took t w e f lies = (
@@ -131,38 +131,36 @@ module _ (work : Work) (line out line′ out′ : List ℕ) (r : Filled) where
     rw e lies,
   )
 
-pub lasts-sheet : (work : Work) (line out out′ : List ℕ) (r : Filled) (took : SheetTook) → work .task ≡ Sheet → r ≡ ofSheet work took
-    → (took, out′) ≡ lastLine (work .sheet) out → took .written ≤ length out → Lasts work line out line out′ r
+pub lasts-sheet : (task : Task) (work : Work) (line out out′ : List ℕ) (r : Filled) (took : SheetTook) → task ≡ Sheet → r ≡ ofSheet work took
+    → (took, out′) ≡ lastLine (work .sheet) out → took .written ≤ length out → Lasts task work line out line out′ r
 unfolding lastOf
-lasts-sheet work line out out′ r took t e f lies =
+lasts-sheet task work line out out′ r took t e f lies =
     (ap (λ (x : Filled). (x, line, out′)) e ∙ ap (sheetAnswer work line) f ∙ sym (ap (λ (x : Task). lastBy x work line out) t), rw e lies)
 
 -- ---- A step, and the end
 
-module _ (before : Place) (line out line′ out′ : List ℕ) (filled : Filled) (well : Bool) (put : ℕ)
-    (e : put ≡ (before .put + filled .written) % 2 ^ 64) (w : T well → filled .refusal ≡ 0) (long : length out′ ≡ length out) where
-  pub took-in : (input : List ℕ) → before .from ≤ before .to
-      → (filled, line′, out′) ≡ fillOf (before .work) (leftOf before input) line out
+module _ (task : Task) (before : At) (line out line′ out′ : List ℕ) (filled : Filled) (well : Bool)
+    (w : T well → filled .refusal ≡ 0) (long : length out′ ≡ length out) where
+  pub took-in : (input : List ℕ) (progress : Progress) → progress ≡ takenIn (before .progress) (filled .used) (filled .written) well
+      → (filled, line′, out′) ≡ fillOf task (before .work) (leftOf before input) line out
       → (filled .used ≤ length (leftOf before input)) × (filled .written ≤ length out)
-      → AfterFill before
-      (record { work = filled .work; from = before .from + filled .used; to = before .to; end = before .end; well = well; put = put })
-      input line line′ out out′
-  took-in input ordered f lies =
-      let left : length (leftOf before input) ≤ before .to - before .from = simp length-take (omega arith) in
-      record {
-        taken = rw e (ap (filledPlace before well) f);
-        inside = omega arith;
+      → AfterFill task before (record { work = filled .work; progress = progress }) input line line′ out out′
+  took-in input progress e f lies =
+      let left : length (leftOf before input) ≤ before .progress .left = simp length-take (omega arith) in
+      rw e (record {
+        taken = ap (filledAt before well) f;
+        inside = rw (← f) (omega arith);
         within = rw (← f) (omega arith);
         not-refused = λ t. ap (λ (x : Answer). x .0 .refusal) (sym f) ∙ w t;
-      }
+      })
 
-  pub at-last : before .well ≡ true
-      → (filled, line′, out′) ≡ lastOf (before .work) line out
+  pub at-last : (put : ℕ) → put ≡ (before .progress .put + filled .written) % 2 ^ 64 → before .progress .well ≡ true
+      → (filled, line′, out′) ≡ lastOf task (before .work) line out
       → filled .written ≤ length out
-      → AfterLast before (record { well = well; end = before .end; work = filled .work; put = put }) line line′ out out′
-  at-last h f lies =
+      → AfterLast task before (record { well = well; end = before .progress .end; work = filled .work; put = put }) line line′ out out′
+  at-last put e h f lies =
       record {
         was-well = rw h Prim.tt;
-        taken = rw e (ap (lastPlace before well) f);
+        taken = rw e (ap (lastAt before well) f);
         within = rw (← f) (omega arith);
       }

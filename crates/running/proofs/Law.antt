@@ -29,7 +29,6 @@ use Rattle.dumping.specs.Parts.{given, begunFrom, fillOf as fillWaves, finishOf
 use Rattle.dumping.specs.Moments.{wavesFrom}
 use Rattle.dumping.proofs.Whole.{nothing-told}
 use Rattle.dumping.proofs.Law as dumps
-use Rattle.sheets.specs.declared.Sheet.{Sheet as SheetUnderWay}
 use Rattle.sheets.specs.Sheets.{sheetOf}
 use Rattle.sheets.specs.Runs.{fillOf as fillSheet, finishOf as lastLine, toCome as sheetToCome}
 use Rattle.sheets.proofs.Law as sheet-law
@@ -65,10 +64,7 @@ use Rattle.running.specs.Works.{
 
 module _ (work : Work) (line out : List ℕ) (full : length line ≡ lineBytes) (long : room ≤ length out) where
   -- By its task.
-  abbrev with : Task → Work
-  with task = record { task = task; run = work .run; dump = work .dump; sheet = work .sheet }
-
-  fills-by : (part : List ℕ) (task : Task) → Right (with task) part line (fillBy task (with task) part line out)
+  fills-by : (part : List ℕ) (task : Task) → Right task work part line (fillBy task work part line out)
   unfolding allOf isEnded
   fills-by part Rows =
       let answer = fillRows (work .run) part line out in
@@ -77,7 +73,7 @@ module _ (work : Work) (line out : List ℕ) (full : length line ≡ lineBytes) 
         taken = right .taken;
         full = right .full;
         forth = right .forth;
-        same = λ rest. ap (rowsCome (with Rows)) (right .same rest);
+        same = λ rest. ap (rowsCome work) (right .same rest);
       }
   fills-by part Image =
       let answer = fillRows (work .run) part line out in
@@ -86,7 +82,7 @@ module _ (work : Work) (line out : List ℕ) (full : length line ≡ lineBytes) 
         taken = right .taken;
         full = right .full;
         forth = right .forth;
-        same = λ rest. ap (imageCome (with Image)) (right .same rest);
+        same = λ rest. ap (imageCome work) (right .same rest);
       }
   fills-by part Waves =
       let waves : Run&Dump = record { run = work .run; dump = work .dump } in
@@ -96,7 +92,7 @@ module _ (work : Work) (line out : List ℕ) (full : length line ≡ lineBytes) 
         taken = right .taken;
         full = right .full;
         forth = right .forth;
-        same = λ rest. ap (wavesCome (with Waves)) (right .same rest);
+        same = λ rest. ap (wavesCome work) (right .same rest);
       }
   fills-by part Sheet =
       let right = sheet-law.fill-right (work .sheet) part out (omega arith) in
@@ -104,37 +100,37 @@ module _ (work : Work) (line out : List ℕ) (full : length line ≡ lineBytes) 
         taken = right .taken;
         full = full;
         forth = λ some going. right .forth some;
-        same = λ rest. ap (sheetCome (with Sheet)) (right .same rest);
+        same = λ rest. ap (sheetCome work) (right .same rest);
       }
 
   -- A part: nothing is refused, and what was to come is what is written and what is still to come.
-  pub fill-right : (part : List ℕ) → Right work part line (fillOf work part line out)
+  pub fill-right : (task : Task) (part : List ℕ) → Right task work part line (fillOf task work part line out)
   unfolding fillOf
-  fill-right part = fills-by part (work .task)
+  fill-right task part = fills-by part task
 
-  lasts-by : (task : Task) → RightLast (with task) line (lastBy task (with task) line out)
+  lasts-by : (task : Task) → RightLast task work line (lastBy task work line out)
   unfolding allOf
   lasts-by Rows =
       let answer = lastRow (work .run) line out in
       let right = lessons.finished (work .run) line out (answer .0) (answer .1) (answer .2) refl full (omega arith) in
-      record { taken = right .taken; all = ap (rowsCome (with Rows)) (right .all) }
+      record { taken = right .taken; all = ap (rowsCome work) (right .all) }
   lasts-by Image =
       let answer = lastRow (work .run) line out in
       let right = lessons.finished (work .run) line out (answer .0) (answer .1) (answer .2) refl full (omega arith) in
-      record { taken = right .taken; all = ap (imageCome (with Image)) (right .all) }
+      record { taken = right .taken; all = ap (imageCome work) (right .all) }
   lasts-by Waves =
       let waves : Run&Dump = record { run = work .run; dump = work .dump } in
       let answer = lastMoment waves line out in
       let right = dumps.finished waves line out (answer .0) (answer .1) (answer .2) refl full long in
-      record { taken = right .taken; all = ap (wavesCome (with Waves)) (right .all) }
+      record { taken = right .taken; all = ap (wavesCome work) (right .all) }
   lasts-by Sheet =
       let right = sheet-law.finish-right (work .sheet) out (omega arith) in
-      record { taken = right .taken; all = ap (sheetCome (with Sheet)) (right .all) }
+      record { taken = right .taken; all = ap (sheetCome work) (right .all) }
 
   -- The end of the input: nothing is refused, and what was to come is what is written.
-  pub last-right : RightLast work line (lastOf work line out)
+  pub last-right : (task : Task) → RightLast task work line (lastOf task work line out)
   unfolding lastOf
-  last-right = lasts-by (work .task)
+  last-right task = lasts-by task
 
 -- ---- Where a refusal has ended the reading
 
@@ -146,60 +142,56 @@ module _ {A : Type 0} (tell : Teller A) (quiet : (a : A) (before after : State) 
   nothing-comes a run line rest (Ended at refusal) e h = ended-nothing-to-come tell quiet a run line rest at refusal e
 
 -- Nothing is to come, whatever follows,
-module _ (run : Run) (dump : Dump) (sheet : SheetUnderWay) where
-  abbrev of : Task → Work
-  of task = record { task = task; run = run; dump = dump; sheet = sheet }
+pub ended-for-good : (task : Task) (work : Work) (line rest : List ℕ) → isEnded task work ≡ true → allOf task work line rest ≡ ([], restBy task work)
+unfolding allOf isEnded
+ended-for-good Rows work line rest h =
+    ap (rowsCome work) (nothing-comes textTold quiet Prim.tt (work .run) line rest (work .run .reading .phase) refl h)
+ended-for-good Image work line rest h =
+    ap (imageCome work) (nothing-comes textTold quiet Prim.tt (work .run) line rest (work .run .reading .phase) refl h)
+ended-for-good Waves work line rest h =
+    ap (wavesCome work) (nothing-comes given nothing-told (work .dump) (work .run) line rest (work .run .reading .phase) refl h)
+ended-for-good Sheet work line rest h = ap (sheetCome work) (sheet-law.nine-for-good (work .sheet) rest h)
 
-  ended-by : (line rest : List ℕ) (task : Task) → isEnded (of task) ≡ true → allOf (of task) line rest ≡ ([], restBy task (of task))
-  unfolding allOf isEnded
-  ended-by line rest Rows h = ap (rowsCome (of Rows)) (nothing-comes textTold quiet Prim.tt run line rest (run .reading .phase) refl h)
-  ended-by line rest Image h = ap (imageCome (of Image)) (nothing-comes textTold quiet Prim.tt run line rest (run .reading .phase) refl h)
-  ended-by line rest Waves h = ap (wavesCome (of Waves)) (nothing-comes given nothing-told dump run line rest (run .reading .phase) refl h)
-  ended-by line rest Sheet h = ap (sheetCome (of Sheet)) (sheet-law.nine-for-good sheet rest h)
-
-  stays-by : (task : Task) → isEnded (restBy task (of task)) ≡ isEnded (of task)
-  unfolding isEnded
-  stays-by Rows = refl
-  stays-by Image = refl
-  stays-by Waves = refl
-  stays-by Sheet = refl
-
-pub ended-for-good : (work : Work) (line rest : List ℕ) → isEnded work ≡ true → allOf work line rest ≡ ([], restBy (work .task) work)
-ended-for-good work line rest h = ended-by (work .run) (work .dump) (work .sheet) line rest (work .task) h
+stays : (task : Task) (work : Work) → isEnded task (restBy task work) ≡ isEnded task work
+unfolding isEnded
+stays Rows work = refl
+stays Image work = refl
+stays Waves work = refl
+stays Sheet work = refl
 
 -- and the work stays one that a refusal has ended, also behind the end of the input.
-pub stays-ended : (work : Work) (line out : List ℕ) → length line ≡ lineBytes → room ≤ length out → isEnded work ≡ true
-    → isEnded (lastOf work line out .0 .work) ≡ true
-stays-ended work line out full long h =
-    let left = ap (λ (come : Come). come .1) (sym (last-right work line out full long .all) ∙ ended-for-good work line [] h) in
-    ap isEnded left ∙ stays-by (work .run) (work .dump) (work .sheet) (work .task) ∙ h
+pub stays-ended : (task : Task) (work : Work) (line out : List ℕ) → length line ≡ lineBytes → room ≤ length out → isEnded task work ≡ true
+    → isEnded task (lastOf task work line out .0 .work) ≡ true
+stays-ended task work line out full long h =
+    let left = ap (λ (come : Come). come .1) (sym (last-right work line out full long task .all) ∙ ended-for-good task work line [] h) in
+    ap (isEnded task) left ∙ stays task work ∙ h
 
 -- ---- The whole run
 
 -- The rows of a trace are those of `replay` from that controller, and the run that is left bears the reading of the whole;
 pub whole-rows : (state : State) (input : List ℕ)
-    → wholeOf (workOf Rows state) input ≡ (resumedOf state input, withRun (workOf Rows state) (between (readTo (readFrom state) (rowsOf input))))
+    → wholeOf Rows state input ≡ (resumedOf state input, withRun (workOf state) (between (readTo (readFrom state) (rowsOf input))))
 unfolding wholeOf workOf allOf begunFrom toCome runFrom resumedOf writtenOf
 whole-rows state input =
     rw (start-law input)
-    (ap (λ (run : Run). (resumedOf state input, withRun (workOf Rows state) run))
+    (ap (λ (run : Run). (resumedOf state input, withRun (workOf state) run))
     (left-of-rows textTold Prim.tt (readFrom state) (rowsOf input)))
 
 -- so it is where an image is wanted, and nothing is put out;
 pub whole-image : (state : State) (input : List ℕ)
-    → wholeOf (workOf Image state) input ≡ ([], withRun (workOf Image state) (between (readTo (readFrom state) (rowsOf input))))
+    → wholeOf Image state input ≡ ([], withRun (workOf state) (between (readTo (readFrom state) (rowsOf input))))
 unfolding wholeOf workOf allOf begunFrom toCome runFrom
 whole-image state input =
     rw (start-law input)
-    (ap (λ (run : Run). ([], withRun (workOf Image state) run))
+    (ap (λ (run : Run). ([], withRun (workOf state) run))
     (left-of-rows textTold Prim.tt (readFrom state) (rowsOf input)))
 
 -- the dump of a trace is that of `waves` from that controller;
-pub whole-waves : (state : State) (input : List ℕ) → wholeOf (workOf Waves state) input .0 ≡ wavesFrom state input
+pub whole-waves : (state : State) (input : List ℕ) → wholeOf Waves state input .0 ≡ wavesFrom state input
 unfolding wholeOf workOf allOf
 whole-waves state input = dumps.dump-to-come state (replicate lineBytes 0) input
 
 -- the rows of a dump are those of `sheet`.
-pub whole-sheet : (state : State) (input : List ℕ) → wholeOf (workOf Sheet state) input .0 ≡ sheetOf input
+pub whole-sheet : (state : State) (input : List ℕ) → wholeOf Sheet state input .0 ≡ sheetOf input
 unfolding wholeOf workOf allOf
 whole-sheet state input = sheet-law.whole-sheet input

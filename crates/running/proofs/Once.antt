@@ -6,14 +6,8 @@ use mathlib.Core.Path.{sym, _∙_}
 use denote.Ref.{now}
 use Rattle.common.specs.OneAnswer.{OneAnswer, OneAnswerAnd}
 use Rattle.common.proofs.Pairs.{all-three}
-use Rattle.running.proofs.Work.rows.Kinds as rows-kinds
-use Rattle.running.proofs.Work.rows.Reads as rows-reads
-use Rattle.running.proofs.Work.image.Kinds as image-kinds
-use Rattle.running.proofs.Work.image.Reads as image-reads
-use Rattle.running.proofs.Work.waves.Kinds as waves-kinds
-use Rattle.running.proofs.Work.waves.Reads as waves-reads
-use Rattle.running.proofs.Work.sheet.Kinds as sheet-kinds
-use Rattle.running.proofs.Work.sheet.Reads as sheet-reads
+use Rattle.running.proofs.Work.from.Kinds as from-kinds
+use Rattle.running.proofs.Work.from.Reads as from-reads
 use Rattle.running.proofs.Work.has_ended.Kinds as has-ended-kinds
 use Rattle.running.proofs.Work.has_ended.Reads as has-ended-reads
 use Rattle.running.proofs.Work.fill.Kinds as fill-kinds
@@ -21,25 +15,16 @@ use Rattle.running.proofs.Work.fill.Reads as fill-reads
 use Rattle.running.proofs.Work.last.Kinds as last-kinds
 use Rattle.running.proofs.Work.last.Reads as last-reads
 
-pub rows-once : OneAnswer 0 rows-kinds.ps rows-kinds.r rows-reads.Post
-rows-once κs a x y s t p q = p ∙ sym q
-
-pub image-once : OneAnswer 0 image-kinds.ps image-kinds.r image-reads.Post
-image-once κs a x y s t p q = p ∙ sym q
-
-pub waves-once : OneAnswer 0 waves-kinds.ps waves-kinds.r waves-reads.Post
-waves-once κs a x y s t p q = p ∙ sym q
-
-pub sheet-once : OneAnswer 0 sheet-kinds.ps sheet-kinds.r sheet-reads.Post
-sheet-once κs a x y s t p q = p ∙ sym q
+pub from-once : OneAnswer 0 from-kinds.ps from-kinds.r from-reads.Post
+from-once κs a x y s t p q = p ∙ sym q
 
 pub has-ended-once : OneAnswer 0 has-ended-kinds.ps has-ended-kinds.r has-ended-reads.Post
 has-ended-once κs a x y s t p q = p ∙ sym q
 
 pub fill-once : OneAnswerAnd 3 fill-kinds.ps fill-kinds.r fill-reads.Post (List ℕ × List ℕ)
-    (λ κs s. (now (s .1 .1 .0), now (s .1 .1 .1 .0)))
+    (λ κs s. (now (s .1 .1 .1 .0), now (s .1 .1 .1 .1 .0)))
 fill-once κs a x y s t p q = all-three (p .0 ∙ sym (q .0))
 
 pub last-once : OneAnswerAnd 2 last-kinds.ps last-kinds.r last-reads.Post (List ℕ × List ℕ)
-    (λ κs s. (now (s .1 .0), now (s .1 .1 .0)))
+    (λ κs s. (now (s .1 .1 .0), now (s .1 .1 .1 .0)))
 last-once κs a x y s t p q = all-three (p .0 ∙ sym (q .0))

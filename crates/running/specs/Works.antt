@@ -31,19 +31,19 @@ use Rattle.running.specs.declared.Filled.{Filled}
 
 -- ---- A work
 
--- A work at its start, with the controller to go on with.
-unfoldable pub workOf : Task → State → Work
-workOf task state = record { task = task; run = begunFrom state .run; dump = begunFrom state .dump; sheet = newSheet }
+-- A work at its start, with the controller to go on with. What is made of it is by the task.
+unfoldable pub workOf : State → Work
+workOf state = record { run = begunFrom state .run; dump = begunFrom state .dump; sheet = newSheet }
 
 -- The same work further on: with another run, another run and dump, another sheet.
 abbrev pub withRun : Work → Run → Work
-withRun work run = record { task = work .task; run = run; dump = work .dump; sheet = work .sheet }
+withRun work run = record { run = run; dump = work .dump; sheet = work .sheet }
 
 abbrev pub withDump : Work → Run → Dump → Work
-withDump work run dump = record { task = work .task; run = run; dump = dump; sheet = work .sheet }
+withDump work run dump = record { run = run; dump = dump; sheet = work .sheet }
 
 abbrev pub withSheet : Work → SheetUnderWay → Work
-withSheet work sheet = record { task = work .task; run = work .run; dump = work .dump; sheet = sheet }
+withSheet work sheet = record { run = work .run; dump = work .dump; sheet = sheet }
 
 -- What stands in front of all that is put out, in every case.
 abbrev pub headerBy : Task → List ℕ
@@ -59,8 +59,8 @@ endedBy Image work = hasEnded (work .run .reading .phase)
 endedBy Waves work = hasEnded (work .run .reading .phase)
 endedBy Sheet work = work .sheet .nine
 
-unfoldable pub isEnded : Work → Bool
-isEnded work = endedBy (work .task) work
+unfoldable pub isEnded : Task → Work → Bool
+isEnded task work = endedBy task work
 
 -- ---- A call
 
@@ -76,13 +76,10 @@ Answer = Filled × List ℕ × List ℕ
 abbrev pub wrote : Answer → List ℕ
 wrote answer = take (answer .0 .written) (answer .2)
 
--- By what the crates below give. Where an image is wanted no row is put out.
-abbrev pub ofRows : Work → RowsTook → Filled
-ofRows work took =
-    record { work = withRun work (took .run); used = took .used; written = took .written; refusal = took .refusal }
-
-abbrev pub ofImage : Work → RowsTook → Filled
-ofImage work took = record { work = withRun work (took .run); used = took .used; written = 0; refusal = took .refusal }
+-- By what the crates below give. Of the rows of a trace so many bytes are put out.
+abbrev pub ofRows : Work → RowsTook → ℕ → Filled
+ofRows work took written =
+    record { work = withRun work (took .run); used = took .used; written = written; refusal = took .refusal }
 
 abbrev pub ofWaves : Work → WavesTook → Filled
 ofWaves work took =
@@ -98,10 +95,11 @@ ofSheet work took =
     record { work = withSheet work (took .sheet); used = took .used; written = took .written; refusal = took .refusal }
 
 abbrev pub rowsAnswer : Work → RowsTook × List ℕ × List ℕ → Answer
-rowsAnswer work answer = (ofRows work (answer .0), answer .1, answer .2)
+rowsAnswer work answer = (ofRows work (answer .0) (answer .0 .written), answer .1, answer .2)
 
+-- Where an image is wanted no row is put out.
 abbrev pub imageAnswer : Work → RowsTook × List ℕ × List ℕ → Answer
-imageAnswer work answer = (ofImage work (answer .0), answer .1, answer .2)
+imageAnswer work answer = (ofRows work (answer .0) 0, answer .1, answer .2)
 
 abbrev pub wavesAnswer : Work → WavesTook × List ℕ × List ℕ → Answer
 wavesAnswer work answer = (ofWaves work (answer .0), answer .1, answer .2)
@@ -117,8 +115,8 @@ fillBy Image work part line out = imageAnswer work (fillRows (work .run) part li
 fillBy Waves work part line out = wavesAnswer work (fillWaves (record { run = work .run; dump = work .dump }) part line out)
 fillBy Sheet work part line out = sheetAnswer work line (fillSheet (work .sheet) part out)
 
-unfoldable pub fillOf : Work → List ℕ → List ℕ → List ℕ → Answer
-fillOf work part line out = fillBy (work .task) work part line out
+unfoldable pub fillOf : Task → Work → List ℕ → List ℕ → List ℕ → Answer
+fillOf task work part line out = fillBy task work part line out
 
 -- The end of the input.
 abbrev pub lastBy : Task → Work → List ℕ → List ℕ → Answer
@@ -127,8 +125,8 @@ lastBy Image work line out = imageAnswer work (lastRow (work .run) line out)
 lastBy Waves work line out = wavesAnswer work (lastMoment (record { run = work .run; dump = work .dump }) line out)
 lastBy Sheet work line out = sheetAnswer work line (lastLine (work .sheet) out)
 
-unfoldable pub lastOf : Work → List ℕ → List ℕ → Answer
-lastOf work line out = lastBy (work .task) work line out
+unfoldable pub lastOf : Task → Work → List ℕ → List ℕ → Answer
+lastOf task work line out = lastBy task work line out
 
 -- ---- What is still to come
 
@@ -158,23 +156,23 @@ allBy Image work line rest = imageCome work (toCome textTold Prim.tt (work .run)
 allBy Waves work line rest = wavesCome work (toCome given (work .dump) (work .run) line rest)
 allBy Sheet work line rest = sheetCome work (sheetToCome (work .sheet) rest)
 
-unfoldable pub allOf : Work → List ℕ → List ℕ → Come
-allOf work line rest = allBy (work .task) work line rest
+unfoldable pub allOf : Task → Work → List ℕ → List ℕ → Come
+allOf task work line rest = allBy task work line rest
 
 -- What is right of a call, with a line buffer of 512 bytes and room in the output buffer: nothing is refused, the line buffer stays as long as it
 -- was, of a part that is not empty some is used if no refusal had ended the reading, and what was to come is what is written and what is
 -- still to come.
-pub record Right (work : Work) (part line : List ℕ) (answer : Answer) : Type 0 where
+pub record Right (task : Task) (work : Work) (part line : List ℕ) (answer : Answer) : Type 0 where
   pub taken : answer .0 .refusal ≡ 0
   pub full : length (answer .1) ≡ lineBytes
-  pub forth : 0 < length part → isEnded work ≡ false → 0 < answer .0 .used
+  pub forth : 0 < length part → isEnded task work ≡ false → 0 < answer .0 .used
   pub same : (rest : List ℕ)
-      → allOf work line (part ++ rest) ≡ behind (wrote answer) (allOf (answer .0 .work) (answer .1) (drop (answer .0 .used) part ++ rest))
+      → allOf task work line (part ++ rest) ≡ behind (wrote answer) (allOf task (answer .0 .work) (answer .1) (drop (answer .0 .used) part ++ rest))
 
 -- And of the end of the input: nothing is refused, and what was to come is what is written and the work that is left.
-pub record RightLast (work : Work) (line : List ℕ) (answer : Answer) : Type 0 where
+pub record RightLast (task : Task) (work : Work) (line : List ℕ) (answer : Answer) : Type 0 where
   pub taken : answer .0 .refusal ≡ 0
-  pub all : allOf work line [] ≡ (wrote answer, answer .0 .work)
+  pub all : allOf task work line [] ≡ (wrote answer, answer .0 .work)
 
 -- Where a refusal has ended the reading: no row of a trace is under way.
 abbrev pub restBy : Task → Work → Work
@@ -185,7 +183,7 @@ restBy Sheet work = work
 
 -- ---- The whole run
 
--- The whole run of a work from its start, with all bytes of its input: the header, and what comes of the input. (At the start no byte of the
+-- The whole run of a task from a controller, with all bytes of its input: the header, and what comes of the input. (At the start no byte of the
 -- line buffer counts; a program's is all zeros.)
-unfoldable pub wholeOf : Work → List ℕ → Come
-wholeOf work input = behind (headerBy (work .task)) (allOf work (replicate lineBytes 0) input)
+unfoldable pub wholeOf : Task → State → List ℕ → Come
+wholeOf task state input = behind (headerBy task) (allOf task (workOf state) (replicate lineBytes 0) input)

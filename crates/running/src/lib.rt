@@ -1,37 +1,38 @@
 // The one loop of all programs: from a descriptor that a trace or a dump is read from to one that what is made of it is put out to. A part is read,
 // as much of it taken in as the output buffer has room for, and what that gives is put out at once, so that a live pipe sees its rows.
-// What is made of the input is the work (specs/Works.antt), by the crates below. specs/Loops.antt says what each step promises over the bytes
-// that `read` left, and what the whole loop does; what `read` and `write` do is the operating system's, and nothing can be promised of it.
-ghost use Prim.Native.Nat.{_≤_, _<_};
+// What is made of the input is the work (specs/Works.antt), by its task and the crates below; where the loop stands in numbers is `loops`.
+// specs/Loops.antt says what each step promises over the bytes that `read` left, and what the whole loop does; what `read` and `write` do is the
+// operating system's, and nothing can be promised of it: `read` below and `words::put` hand over to them.
+ghost use Prim.Native.Nat.{_≤_};
 ghost use mathlib.Core.Path.{_≡_};
 ghost use lib.Dec.{T};
 ghost use lib.ListN.{length};
-ghost use Rattle.controller.specs.Start.{freshOf};
 ghost use Rattle.output.specs.Rows.{headerText};
 ghost use Rattle.sheets.specs.Sheets.{sheetHeader};
 ghost use Rattle.reading.specs.Parts.{lineBytes};
 ghost use Rattle.lesson.specs.Writes.{told};
-ghost use Rattle.running.specs.declared.Task.the-variants.{Rows, Image, Waves, Sheet};
+ghost use Rattle.loops.specs.Progresses.{goesOn};
 ghost use Rattle.running.specs.Works.{
   workOf,
   headerBy,
   isEnded,
   room,
   ofRows,
-  ofImage,
   ofWaves,
   ofSheet,
   fillOf,
   lastOf,
   allOf,
-  wholeOf,
 };
-ghost use Rattle.running.specs.Loops.{goesOn, AfterRead, AfterFill, Step, AfterLast, Through};
+ghost use Rattle.running.specs.Loops.{AfterRead, AfterFill, Step, AfterLast, Through, RanFrom};
 use controller::State;
 use dump::Dump;
+use loops::Progress;
 use output::Written;
 use reading::Phase;
 use reading::Run;
+
+pub mod traces;
 
 // A part of the input has at most so many bytes.
 const PART: usize = 8192;
@@ -48,9 +49,8 @@ pub enum Task {
     Sheet,
 }
 
-// A work under way: its task, and how far it is. (Each task looks at its own alone.)
+// A work under way: how far it is. (Each task looks at its own alone.)
 pub struct Work {
-    pub task: Task,
     pub run: Run,
     pub dump: Dump,
     pub sheet: sheets::Sheet,
@@ -73,51 +73,31 @@ pub struct Ran {
     pub put: u64,
 }
 
-// Where the loop stands: the work; from where to where the input buffer holds what is not taken in yet; whether the end of the input was met;
-// whether all went well; and how many bytes were put out.
-struct Place {
+// Where the loop stands: the work, and how far the loop is with the part that was read last.
+struct At {
     work: Work,
-    from: usize,
-    to: usize,
-    end: bool,
-    well: bool,
-    put: u64,
+    progress: Progress,
 }
 
 impl Work {
-    // The rows of a trace, from a controller on.
-    pub fn rows(state: State) -> Self
-        ensures { λ r. ⌜ r ≡ workOf Rows state ⌝ }
+    // A work at its start, with the controller to go on with.
+    pub fn from(state: State) -> Self
+        ensures { λ r. ⌜ r ≡ workOf state ⌝ }
     {
-        Work::new(Task::Rows, state)
-    }
-
-    // The controller that a trace leaves, from a controller on.
-    pub fn image(state: State) -> Self
-        ensures { λ r. ⌜ r ≡ workOf Image state ⌝ }
-    {
-        Work::new(Task::Image, state)
-    }
-
-    // The dump of a trace, from a controller on.
-    pub fn waves(state: State) -> Self
-        ensures { λ r. ⌜ r ≡ workOf Waves state ⌝ }
-    {
-        Work::new(Task::Waves, state)
-    }
-
-    // The rows of a dump.
-    pub fn sheet() -> Self
-        ensures { λ r. ⌜ r ≡ workOf Sheet (freshOf 0) ⌝ }
-    {
-        Work::new(Task::Sheet, State::fresh(0))
+        let waves = dumping::Waves::from(state);
+        let run = waves.run;
+        let dump = waves.dump;
+        Work {
+            run,
+            dump,
+            sheet: sheets::Sheet::new(),
+        }
     }
 
     // Whether a refusal has ended the reading.
-    pub fn has_ended(self) -> bool
-        ensures { λ r. ⌜ r ≡ isEnded self ⌝ }
+    pub fn has_ended(self, task: Task) -> bool
+        ensures { λ r. ⌜ r ≡ isEnded task self ⌝ }
     {
-        let task = self.task;
         let run = self.run;
         let phase = run.phase();
         let sheet = self.sheet;
@@ -131,15 +111,17 @@ impl Work {
 
     // Takes in a part of the input, as much of it as the output buffer has room for, through a line buffer of 512 bytes, and writes what it
     // gives. The rest of the part is for the next call. Where a refusal ends the reading, nothing behind it is taken in.
-    pub fn fill(self, part: &[u8], line: &mut [u8], out: &mut [u8]) -> Filled
-        ensures { λ r. ⌜ (r, now (line .exit), now (out .exit)) ≡ fillOf self (now (part .entry)) (now (line .entry)) (now (out .entry)) ⌝ }
+    pub fn fill(self, task: Task, part: &[u8], line: &mut [u8], out: &mut [u8]) -> Filled
+        ensures { λ r. ⌜ (r, now (line .exit), now (out .exit)) ≡ fillOf task self (now (part .entry)) (now (line .entry)) (now (out .entry)) ⌝ }
         ensures { λ r. ⌜ (r .used ≤ length (now (part .entry))) × (r .written ≤ length (now (out .entry))) ⌝ }
     {
-        let task = self.task;
         let run = self.run;
         match task {
-            Task::Rows => self.of_rows(lesson::fill(run, part, line, out)),
-            Task::Image => self.of_image(lesson::fill(run, part, line, out)),
+            Task::Rows => {
+                let took = lesson::fill(run, part, line, out);
+                self.of_rows(took, took.written)
+            }
+            Task::Image => self.of_rows(lesson::fill(run, part, line, out), 0),
             Task::Waves => {
                 let waves = self.as_waves();
                 self.of_waves(waves.fill(part, line, out))
@@ -152,15 +134,17 @@ impl Work {
     }
 
     // The end of the input: what is still in the line buffer is the last row.
-    pub fn last(self, line: &mut [u8], out: &mut [u8]) -> Filled
-        ensures { λ r. ⌜ (r, now (line .exit), now (out .exit)) ≡ lastOf self (now (line .entry)) (now (out .entry)) ⌝ }
+    pub fn last(self, task: Task, line: &mut [u8], out: &mut [u8]) -> Filled
+        ensures { λ r. ⌜ (r, now (line .exit), now (out .exit)) ≡ lastOf task self (now (line .entry)) (now (out .entry)) ⌝ }
         ensures { λ r. ⌜ r .written ≤ length (now (out .entry)) ⌝ }
     {
-        let task = self.task;
         let run = self.run;
         match task {
-            Task::Rows => self.of_rows(lesson::finish(run, line, out)),
-            Task::Image => self.of_image(lesson::finish(run, line, out)),
+            Task::Rows => {
+                let took = lesson::finish(run, line, out);
+                self.of_rows(took, took.written)
+            }
+            Task::Image => self.of_rows(lesson::finish(run, line, out), 0),
             Task::Waves => {
                 let waves = self.as_waves();
                 self.of_waves(waves.finish(line, out))
@@ -169,35 +153,6 @@ impl Work {
                 let sheet = self.sheet;
                 self.of_sheet(sheet.finish(out))
             }
-        }
-    }
-
-    // Puts what stands in front of all that is put out at the front of the output buffer, and answers how many bytes that is.
-    fn header(self, out: &mut [u8]) -> usize
-        requires { ⌜ room ≤ length (now out) ⌝ }
-        ensures { λ r. ⌜ (r, now (out .exit)) ≡ told (headerBy (self .task)) (now (out .entry)) ⌝ }
-    {
-        let task = self.task;
-        match task {
-            Task::Rows => header_of_rows(out),
-            Task::Image => 0,
-            Task::Waves => 0,
-            Task::Sheet => header_of_sheet(out),
-        }
-    }
-
-    // A work at its start.
-    fn new(task: Task, state: State) -> Self
-        ensures { λ r. ⌜ r ≡ workOf task state ⌝ }
-    {
-        let waves = dumping::Waves::from(state);
-        let run = waves.run;
-        let dump = waves.dump;
-        Work {
-            task,
-            run,
-            dump,
-            sheet: sheets::Sheet::new(),
         }
     }
 
@@ -210,43 +165,17 @@ impl Work {
         dumping::Waves { run, dump }
     }
 
-    // By what the crates below give.
-    fn of_rows(self, took: lesson::Took) -> Filled
-        ensures { λ r. ⌜ r ≡ ofRows self took ⌝ }
+    // By what the crates below give: of the rows of a trace so many bytes are put out.
+    fn of_rows(self, took: lesson::Took, written: usize) -> Filled
+        ensures { λ r. ⌜ r ≡ ofRows self took written ⌝ }
     {
-        let task = self.task;
         let run = took.run;
         let dump = self.dump;
         let sheet = self.sheet;
         Filled {
-            work: Work {
-                task,
-                run,
-                dump,
-                sheet,
-            },
+            work: Work { run, dump, sheet },
             used: took.used,
-            written: took.written,
-            refusal: took.refusal,
-        }
-    }
-
-    fn of_image(self, took: lesson::Took) -> Filled
-        ensures { λ r. ⌜ r ≡ ofImage self took ⌝ }
-    {
-        let task = self.task;
-        let run = took.run;
-        let dump = self.dump;
-        let sheet = self.sheet;
-        Filled {
-            work: Work {
-                task,
-                run,
-                dump,
-                sheet,
-            },
-            used: took.used,
-            written: 0,
+            written,
             refusal: took.refusal,
         }
     }
@@ -254,18 +183,12 @@ impl Work {
     fn of_waves(self, took: dumping::Took) -> Filled
         ensures { λ r. ⌜ r ≡ ofWaves self took ⌝ }
     {
-        let task = self.task;
         let waves = took.waves;
         let run = waves.run;
         let dump = waves.dump;
         let sheet = self.sheet;
         Filled {
-            work: Work {
-                task,
-                run,
-                dump,
-                sheet,
-            },
+            work: Work { run, dump, sheet },
             used: took.used,
             written: took.written,
             refusal: took.refusal,
@@ -275,17 +198,11 @@ impl Work {
     fn of_sheet(self, took: sheets::Took) -> Filled
         ensures { λ r. ⌜ r ≡ ofSheet self took ⌝ }
     {
-        let task = self.task;
         let run = self.run;
         let dump = self.dump;
         let sheet = took.sheet;
         Filled {
-            work: Work {
-                task,
-                run,
-                dump,
-                sheet,
-            },
+            work: Work { run, dump, sheet },
             used: took.used,
             written: took.written,
             refusal: took.refusal,
@@ -293,15 +210,16 @@ impl Work {
     }
 }
 
-// Runs a work from its start to its end, from one descriptor to another, and says on standard error what ended it, if anything did. The header comes
-// first in every case.
-pub fn run(name: &[u8], from: i32, to: i32, start: Work) -> Ran
-    ensures { λ r. ⌜ (T (r .well) → Through 0 (wholeOf start) r) ⌝ }
+// Runs a task from a controller to its end, from one descriptor to another, and says on standard error what ended it, if anything did. The header
+// comes first in every case.
+pub fn run(name: &[u8], from: i32, to: i32, task: Task, state: State) -> Ran
+    ensures { λ r. ⌜ RanFrom task state r ⌝ }
 {
+    let start = Work::from(state);
     let mut line = [0u8; 512];
     let mut input = part_room();
     let mut out = io::large_buffer();
-    let n = start.header(&mut out);
+    let n = put_header(task, &mut out);
     if !words::put(name, to, &out, n) {
         return Ran {
             well: false,
@@ -314,6 +232,7 @@ pub fn run(name: &[u8], from: i32, to: i32, start: Work) -> Ran
         name,
         from,
         to,
+        task,
         start,
         n as u64,
         &mut input,
@@ -329,6 +248,19 @@ fn part_room() -> [u8; PART]
     ensures { λ r. ⌜ 8192 ≡ length r ⌝ }
 {
     [0; PART]
+}
+
+// Puts what stands in front of all that is put out at the front of the output buffer, and answers how many bytes that is.
+fn put_header(task: Task, out: &mut [u8]) -> usize
+    requires { ⌜ room ≤ length (now out) ⌝ }
+    ensures { λ r. ⌜ (r, now (out .exit)) ≡ told (headerBy task) (now (out .entry)) ⌝ }
+{
+    match task {
+        Task::Rows => header_of_rows(out),
+        Task::Image => 0,
+        Task::Waves => 0,
+        Task::Sheet => header_of_sheet(out),
+    }
 }
 
 // Puts the output header at the front of the buffer.
@@ -384,31 +316,15 @@ fn is_interrupted(name: &[u8]) -> bool {
     false
 }
 
-// A part is read into the input buffer.
-fn read(name: &[u8], from: i32, place: Place, input: &mut [u8]) -> Place
-    ensures { λ r. ⌜ AfterRead place r (now (input .exit)) ⌝ }
+// A part is read into the input buffer: as many bytes as `read` answers, or none where it failed.
+fn read(name: &[u8], from: i32, progress: Progress, input: &mut [u8]) -> Progress
+    ensures { λ r. ⌜ AfterRead progress r (now (input .exit)) ⌝ }
 {
-    let work = place.work;
     let got = libc::read(from, input);
     if got < 0 {
-        return Place {
-            work,
-            from: 0,
-            to: 0,
-            end: false,
-            well: is_interrupted(name),
-            put: place.put,
-        };
+        return progress.not_read(is_interrupted(name));
     }
-    let n = io::count(got, input);
-    Place {
-        work,
-        from: 0,
-        to: n,
-        end: n == 0,
-        well: true,
-        put: place.put,
-    }
+    progress.read(io::count(got, input))
 }
 
 // Hands to `write` what a call wrote. A call that was refused stops the loop: nothing of the input is dropped in silence.
@@ -429,26 +345,25 @@ fn put_out(name: &[u8], to: i32, filled: Filled, out: &[u8]) -> bool
 fn take_in(
     name: &[u8],
     to: i32,
-    place: Place,
+    task: Task,
+    at: At,
     input: &[u8],
     line: &mut [u8],
     out: &mut [u8],
-) -> Place
-    requires { ⌜ (place .from ≤ place .to) × (place .to ≤ length (now input)) ⌝ }
-    ensures { λ r. ⌜ AfterFill place r (now (input .entry)) (now (line .entry)) (now (line .exit)) (now (out .entry)) (now (out .exit)) ⌝ }
+) -> At
+    requires { ⌜ (at .progress .left ≤ at .progress .to) × (at .progress .to ≤ length (now input)) ⌝ }
+    ensures { λ r. ⌜ AfterFill task at r (now (input .entry)) (now (line .entry)) (now (line .exit)) (now (out .entry)) (now (out .exit)) ⌝ }
 {
-    let work = place.work;
-    let first = place.from;
-    let end = place.to;
-    let filled = work.fill(&input[first..end], line, out);
+    let work = at.work;
+    let progress = at.progress;
+    let end = progress.to;
+    let first = end - progress.left;
+    let filled = work.fill(task, &input[first..end], line, out);
     let next = filled.work;
-    Place {
+    let well = put_out(name, to, filled, out);
+    At {
         work: next,
-        from: first + filled.used,
-        to: end,
-        end: place.end,
-        well: put_out(name, to, filled, out),
-        put: std::num::wrapping_add_u64(place.put, filled.written as u64),
+        progress: progress.taken_in(filled.used, filled.written, well),
     }
 }
 
@@ -457,48 +372,56 @@ fn step(
     name: &[u8],
     from: i32,
     to: i32,
-    place: Place,
+    task: Task,
+    at: At,
     input: &mut [u8],
     line: &mut [u8],
     out: &mut [u8],
-) -> Place
-    requires { ⌜ place .to ≤ length (now input) ⌝ }
-    ensures { λ r. ⌜ Step place r (now (input .entry)) (now (input .exit)) (now (line .entry)) (now (line .exit)) (now (out .entry)) (now (out .exit)) ⌝ }
+) -> At
+    requires { ⌜ (at .progress .left ≤ at .progress .to) × (at .progress .to ≤ length (now input)) ⌝ }
+    ensures { λ r. ⌜ Step task at r (now (input .entry)) (now (input .exit)) (now (line .entry)) (now (line .exit)) (now (out .entry)) (now (out .exit)) ⌝ }
 {
-    if place.from < place.to {
-        return take_in(name, to, place, input, line, out);
+    let progress = at.progress;
+    if 0 < progress.left {
+        return take_in(name, to, task, at, input, line, out);
     }
-    read(name, from, place, input)
+    let work = at.work;
+    At {
+        work,
+        progress: read(name, from, progress, input),
+    }
 }
 
-// Whether to go on: nothing failed, the input has not ended, and no refusal has ended the reading.
-fn goes_on(place: Place) -> bool
-    ensures { λ r. ⌜ r ≡ goesOn place ⌝ }
+// Whether to go on.
+fn goes_on(task: Task, at: At) -> bool
+    ensures { λ r. ⌜ r ≡ goesOn (at .progress) (isEnded task (at .work)) ⌝ }
 {
-    let work = place.work;
-    place.well & (!place.end & !work.has_ended())
+    let work = at.work;
+    let progress = at.progress;
+    progress.goes_on(work.has_ended(task))
 }
 
 // The end of the loop: what is still in the line buffer is the last row. (Behind a refusal that ended the reading nothing comes of it.)
-fn ended(name: &[u8], to: i32, place: Place, line: &mut [u8], out: &mut [u8]) -> Ran
-    ensures { λ r. ⌜ (T (r .well) → AfterLast place r (now (line .entry)) (now (line .exit)) (now (out .entry)) (now (out .exit))) ⌝ }
+fn ended(name: &[u8], to: i32, task: Task, at: At, line: &mut [u8], out: &mut [u8]) -> Ran
+    ensures { λ r. ⌜ (T (r .well) → AfterLast task at r (now (line .entry)) (now (line .exit)) (now (out .entry)) (now (out .exit))) ⌝ }
 {
-    let work = place.work;
-    if !place.well {
+    let work = at.work;
+    let progress = at.progress;
+    if !progress.well {
         return Ran {
             well: false,
-            end: place.end,
+            end: progress.end,
             work,
-            put: place.put,
+            put: progress.put,
         };
     }
-    let last = work.last(line, out);
+    let last = work.last(task, line, out);
     let left = last.work;
     Ran {
         well: put_out(name, to, last, out),
-        end: place.end,
+        end: progress.end,
         work: left,
-        put: std::num::wrapping_add_u64(place.put, last.written as u64),
+        put: std::num::wrapping_add_u64(progress.put, last.written as u64),
     }
 }
 
@@ -507,6 +430,7 @@ fn all(
     name: &[u8],
     from: i32,
     to: i32,
+    task: Task,
     start: Work,
     put: u64,
     input: &mut [u8],
@@ -514,29 +438,26 @@ fn all(
     out: &mut [u8],
 ) -> Ran
     requires { ⌜ (length (now line) ≡ lineBytes) × (room ≤ length (now out)) ⌝ }
-    ensures { λ r. ⌜ (T (r .well) → Through put (allOf start (now (line .entry))) r) ⌝ }
+    ensures { λ r. ⌜ (T (r .well) → Through task put (allOf task start (now (line .entry))) r) ⌝ }
 {
-    let mut place = Place {
+    let mut at = At {
         work: start,
-        from: 0,
-        to: 0,
-        end: false,
-        well: true,
-        put,
+        progress: Progress::first(put),
     };
     let mut steps = u64::MAX;
     while steps > 0 {
-        place = step(name, from, to, place, input, line, out);
-        if !goes_on(place) {
-            return ended(name, to, place, line, out);
+        at = step(name, from, to, task, at, input, line, out);
+        if !goes_on(task, at) {
+            return ended(name, to, task, at, line, out);
         }
         steps -= 1;
     }
-    let work = place.work;
+    let work = at.work;
+    let progress = at.progress;
     Ran {
         well: false,
         end: false,
         work,
-        put: place.put,
+        put: progress.put,
     }
 }

@@ -27,10 +27,10 @@ same-length-2 c = search needs
 returns-2 : tie.Need-returns-2
 returns-2 c =
     λ t.
-    let a = c .before .before .before .before .before .before .before .before .before .before .before .before .before .before .before .before .before .args in
+    let a = c .before .before .before .before .before .before .before .before .before .before .before .before .before .before .before .before .before .before .args in
     let last = c .before .before .before .before .before .before .before .before .last in
-    at-last (a .place) (a .line .now) (a .out .now) (last .last .1 .0) (last .last .1 .1 .0) (last .result) (c .before .put-out .result)
-    (c .wrapping-add-u64 .result) (c .wrapping-add-u64 .ensures) (c .before .put-out .ensures) (last .kept .1 .1 .0)
+    at-last (a .task) (a .at) (a .line .now) (a .out .now) (last .last .1 .1 .0) (last .last .1 .1 .1 .0) (last .result) (c .before .put-out .result)
+    (c .before .put-out .ensures) (last .kept .1 .1 .1 .0) (c .wrapping-add-u64 .result) (c .wrapping-add-u64 .ensures)
     (not-false _ (c .before .before .before .before .before .before .before .before .before .before .before .if1 .left)) (last .ensures .0) (last .ensures .1)
 
 pub ended-spec : {M : Type 1} → statement M

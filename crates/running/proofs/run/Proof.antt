@@ -8,17 +8,20 @@ use borrow.Author.Needs.{needs}
 use Rattle.running.proofs.run.Statement.{statement}
 use Rattle.running.proofs.run.Tie as tie
 
+from-requires : tie.Need-from-requires
+from-requires c κs = search needs
+
 part-room-requires : tie.Need-part-room-requires
 part-room-requires c κs = search needs
 
 large-buffer-requires : tie.Need-large-buffer-requires
 large-buffer-requires c κs = search needs
 
-slice-aggregate-header : tie.Need-slice-aggregate-header
-slice-aggregate-header c = search needs
+slice-aggregate-put-header : tie.Need-slice-aggregate-put-header
+slice-aggregate-put-header c = search needs
 
-header-requires : tie.Need-header-requires
-header-requires c κs = search needs
+put-header-requires : tie.Need-put-header-requires
+put-header-requires c κs = search needs
 
 slice-aggregate-put : tie.Need-slice-aggregate-put
 slice-aggregate-put c = search needs
@@ -50,18 +53,20 @@ tell-requires c κs = search needs
 returns-2 : tie.Need-returns-2
 returns-2 c =
     λ t.
-    let a = c .before .before .before .before .before .before .before .before .before .before .before .before .before .before .before .before .before .before .args in
-    let h = c .before .before .before .before .before .before .before .before .before .before .before .before .before .header in
-    through-whole (a .start) (h .result) (c .before .before .before .before .before .all .result) (ap (λ (x : ℕ × List ℕ). x .0) (h .ensures)) (c .before .before .before .before .before .all .ensures t)
+    let a = c .before .before .before .before .before .before .before .before .before .before .before .before .before .before .before .before .before .before .before .args in
+    let n = c .before .before .before .before .before .before .before .before .before .before .before .before .before .put-header in
+    let all = c .before .before .before .before .before .all in
+    through-whole (a .task) (a .state) (c .before .before .before .before .before .before .before .before .before .before .before .before .before .before .before .before .before .from .result) (n .result) (all .result) (c .before .before .before .before .before .before .before .before .before .before .before .before .before .before .before .before .before .from .ensures) (ap (λ (x : ℕ × List ℕ). x .0) (n .ensures)) (all .ensures t)
 
 pub run-spec : {M : Type 1} → statement M
 run-spec =
     tie.close
     (tie.spec
+    from-requires
     part-room-requires
     large-buffer-requires
-    slice-aggregate-header
-    header-requires
+    slice-aggregate-put-header
+    put-header-requires
     slice-aggregate-put
     put-requires
     returns

@@ -19,7 +19,11 @@ same-length-3 : tie.Need-same-length-3
 same-length-3 c = search needs
 
 returns : tie.Need-returns
-returns c = record { reads = λ h. absurd (omega (arith, c .before .before .before .before .before .before .before .before .if1 .taken)); takes-in = λ h. (refl, c .before .before .before .before .take-in .ensures) }
+returns c =
+    record {
+      reads = λ h. absurd (omega (arith, c .before .before .before .before .before .before .before .before .if1 .taken));
+      takes-in = λ h. (refl, c .before .before .before .before .take-in .ensures);
+    }
 
 read-requires : tie.Need-read-requires
 read-requires c κs = search needs
@@ -28,7 +32,11 @@ same-length-4 : tie.Need-same-length-4
 same-length-4 c = search needs
 
 returns-2 : tie.Need-returns-2
-returns-2 c = record { reads = λ h. (c .before .before .read .ensures, refl); takes-in = λ h. absurd (omega (arith, c .before .before .before .before .if1 .left)) }
+returns-2 c =
+    record {
+      reads = λ h. (refl, c .before .before .read .ensures, refl);
+      takes-in = λ h. absurd (omega (arith, c .before .before .before .before .before .if1 .left));
+    }
 
 pub step-spec : {M : Type 1} → statement M
 step-spec =

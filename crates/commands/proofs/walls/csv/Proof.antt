@@ -1,10 +1,12 @@
 -- `commands::walls::csv` meets its contract: as many bytes are put out as the text has.
 -- Assumes nothing.
 use Prim.Native.Nat.{ℕ}
+use native.Mathlib.Omega.{arith}
 use mathlib.Core.List.{List}
-use mathlib.Core.Path.{ap, sym, _∙_}
+use mathlib.Core.Path.{ap, _∙_}
 use Rattle.chart.specs.Csv.{csvText}
-use Rattle.commands.proofs.Shows.{put-length}
+use Rattle.chart.proofs.Lengths.{csv-length}
+use Rattle.commands.proofs.Shows.{all-put}
 use borrow.Author.Needs.{needs}
 use Rattle.commands.proofs.walls.csv.Statement.{statement}
 use Rattle.commands.proofs.walls.csv.Tie as tie
@@ -30,7 +32,7 @@ put-requires c κs = search needs
 returns : tie.Need-returns
 returns c =
     let all = c .before .before .before .before in
-    ap (λ (x : ℕ × List ℕ). x .0) (all .put-table .ensures) ∙ put-length _ csvText 65536 (sym (all .before .before .large-buffer .ensures))
+    ap (λ (x : ℕ × List ℕ). x .0) (all .put-table .ensures) ∙ all-put _ csvText (omega (arith, all .before .before .large-buffer .ensures, csv-length))
 
 pub csv-spec : {M : Type 1} → statement M
 csv-spec =

@@ -1,10 +1,12 @@
 -- `commands::walls::page` meets its contract: as many bytes are put out as the text has.
 -- Assumes nothing.
 use Prim.Native.Nat.{ℕ}
+use native.Mathlib.Omega.{arith}
 use mathlib.Core.List.{List}
-use mathlib.Core.Path.{ap, sym, _∙_}
+use mathlib.Core.Path.{ap, _∙_}
 use Rattle.chart.specs.Page.{pageText}
-use Rattle.commands.proofs.Shows.{put-length}
+use Rattle.chart.proofs.Lengths.{page-length}
+use Rattle.commands.proofs.Shows.{all-put}
 use borrow.Author.Needs.{needs}
 use Rattle.commands.proofs.walls.page.Statement.{statement}
 use Rattle.commands.proofs.walls.page.Tie as tie
@@ -30,7 +32,7 @@ put-requires c κs = search needs
 returns : tie.Need-returns
 returns c =
     let all = c .before .before .before .before in
-    ap (λ (x : ℕ × List ℕ). x .0) (all .put-page .ensures) ∙ put-length _ pageText 65536 (sym (all .before .before .large-buffer .ensures))
+    ap (λ (x : ℕ × List ℕ). x .0) (all .put-page .ensures) ∙ all-put _ pageText (omega (arith, all .before .before .large-buffer .ensures, page-length))
 
 pub page-spec : {M : Type 1} → statement M
 page-spec =

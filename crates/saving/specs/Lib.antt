@@ -1,2 +1,0 @@
-pub mod Loading
-pub mod Messages
