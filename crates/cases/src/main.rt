@@ -2,16 +2,20 @@
 // the word that says what is compared: rows:, dumps: (of traces), values: (of dumps), broken: (the values before the 9 of what is no
 // dump), images: (that traces leave), onward: (rows from an image), words: (of images) and table: (on the wall). A case is the name of
 // its files without their endings. A line is written for each case that differs, or has a refusal that is not stored or lacks one
-// that is, and for each group. What is taken in by parts is run in parts of 4,096 bytes and of seven.
+// that is, and for each group. What is taken in by parts is run in parts of 4,096 bytes and of seven. Behind all groups every word of the
+// programs is run.
 mod files;
 mod images;
 mod parts;
 mod rows;
+mod trial;
 mod values;
 mod walls;
-mod waves;
+mod works;
 
+use controller::State;
 use libc::STDOUT_FILENO;
+use running::Task;
 
 // A group under way: the first letter of its word, by which it is run, the argument that has the word, and how many cases were as
 // stored.
@@ -34,6 +38,7 @@ fn main() {
         i += 1;
     }
     total(group);
+    trial::all();
 }
 
 // Takes an argument.
@@ -86,8 +91,8 @@ fn letter_of(word: &[u8]) -> u8 {
 // Runs a case, and answers whether it was as stored.
 fn case(letter: u8, name: &[u8]) -> bool {
     match letter {
-        b'r' => rows::fresh(name),
-        b'd' => waves::case(name),
+        b'r' => works::case(name, b".in", b".out", Task::Rows, State::fresh(0), 0),
+        b'd' => works::case(name, b".in", b".vcd", Task::Waves, State::fresh(0), 0),
         b'v' => values::case(name, 0),
         b'b' => values::case(name, 9),
         b'i' => rows::saved(name),

@@ -1,34 +1,45 @@
-// A dump and its values: NAME.vcd, taken back by `readback`, must give NAME.csv, and so must its sheet by `sheets`. What is no dump must
-// be refused behind those rows.
+// A dump and its values: NAME.vcd, taken back by `readback`, must give NAME.csv, and so must its sheet. What is no dump must be refused
+// behind those rows.
 ghost use Prim.Native.Nat.{_<_};
 use crate::files;
 use crate::parts;
+use crate::works;
+use controller::State;
 use readback::Reader;
 use readback::Took;
-use sheets::Sheet;
+use running::Task;
 
 // What the buffer for the values holds before the first call: no moment has it.
 const LENT: u8 = 2;
 
 // Whether a case is as stored, and ends in this refusal: 0, or 9 for what is no dump.
 pub(crate) fn case(name: &[u8], refusal: u8) -> bool {
-    run(name, refusal, false) & run(name, refusal, true) & files::both(name, b".vcd", b".csv")
+    works::case(
+        name,
+        b".vcd",
+        b".csv",
+        Task::Sheet,
+        State::fresh(0),
+        refusal,
+    )
+        & run(name, refusal, false)
+        & run(name, refusal, true)
 }
 
-// Whether it is in parts of one length.
+// The header of what is stored.
+pub(crate) fn header(stored: &[u8]) -> usize {
+    let mut out = [0u8; 512];
+    let n = sheets::rows::put_header(&mut out, 0);
+    parts::stored_to(stored, 0, 0, &out, n)
+}
+
+// Whether its moments are in parts of one length.
 fn run(name: &[u8], refusal: u8, small: bool) -> bool {
     let mut dump = files::room();
     let mut stored = files::room();
     let n = files::read(name, b".vcd", &mut dump);
     let m = files::read(name, b".csv", &mut stored);
-    runs(&dump[..n], refusal, small, &stored[..m]) & fills(&dump[..n], refusal, small, &stored[..m])
-}
-
-// The header of what is stored.
-fn header(stored: &[u8]) -> usize {
-    let mut out = [0u8; 512];
-    let n = sheets::rows::put_header(&mut out, 0);
-    parts::stored_to(stored, 0, 0, &out, n)
+    runs(&dump[..n], refusal, small, &stored[..m])
 }
 
 // The row of the moment that a call gives, where it gives one.
@@ -104,26 +115,7 @@ fn runs(dump: &[u8], refusal: u8, small: bool, stored: &[u8]) -> bool {
             return (took.refusal == refusal) & (at == stored.len());
         }
         reader = took.reader;
-        from = parts::after(from, took.used, dump.len());
+        from = parts::after(from, took.used, dump.len(), false);
     }
     (from == dump.len()) & ends(reader, refusal, stored, first, at, &mut values)
-}
-
-// The same part by part, into an output buffer for two rows.
-fn fills(dump: &[u8], refusal: u8, small: bool, stored: &[u8]) -> bool {
-    let mut out = [0u8; 2 * sheets::ROOM];
-    let mut sheet = Sheet::new();
-    let mut at = header(stored);
-    let mut from = 0;
-    while from < dump.len() {
-        let end = parts::end(from, small, dump.len());
-        let took = sheet.fill(&dump[from..end], &mut out);
-        at = parts::stored_to(stored, at, took.refusal, &out, took.written);
-        sheet = took.sheet;
-        from = parts::after(from, took.used, dump.len());
-    }
-    let last = sheet.finish(&mut out);
-    at = parts::stored_to(stored, at, last.refusal, &out, last.written);
-    sheet = last.sheet;
-    (from == dump.len()) & (at == stored.len()) & (sheet.nine == (refusal == 9))
 }

@@ -33,6 +33,9 @@ loop-again c = search needs
 total-requires : tie.Need-total-requires Inv-loop μ-loop
 total-requires c κs = search needs
 
+all-requires : tie.Need-all-requires Inv-loop μ-loop
+all-requires c κs = search needs
+
 returns : tie.Need-returns Inv-loop μ-loop
 returns c = search needs
 
@@ -49,4 +52,5 @@ main-spec =
     loop-less
     loop-again
     total-requires
+    all-requires
     returns)

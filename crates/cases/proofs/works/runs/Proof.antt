@@ -1,20 +1,17 @@
--- `cases::values::fills` is safe and ends: each turn goes on at a higher place of the dump.
+-- `cases::works::runs` is safe and ends: each turn goes on at a higher place of the input.
 -- Assumes nothing.
 use Prim.Native.Nat.{_-_}
 use mathlib.Core.Path.{_≡_}
 use lib.ListN.{length}
 use borrow.Author.Needs.{needs}
-use Rattle.cases.proofs.values.fills.Statement.{statement}
-use Rattle.cases.proofs.values.fills.Tie as tie
+use Rattle.cases.proofs.works.runs.Statement.{statement}
+use Rattle.cases.proofs.works.runs.Tie as tie
 
 abbrev Inv-loop : tie.InvT-loop
-Inv-loop dump refusal small stored out₀ sheet₀ at₀ from₀ out sheet at from = length out ≡ 148
+Inv-loop task input small stored line₀ out₀ work₀ at₀ from₀ line out work at from = (length line ≡ 512) × (length out ≡ 1078)
 
 abbrev μ-loop : tie.MeasureT-loop
-μ-loop dump refusal small stored out₀ sheet₀ at₀ from₀ out sheet at from = length dump - from
-
-new-requires : tie.Need-new-requires Inv-loop μ-loop
-new-requires c κs = search needs
+μ-loop task input small stored line₀ out₀ work₀ at₀ from₀ line out work at from = length input - from
 
 header-requires : tie.Need-header-requires Inv-loop μ-loop
 header-requires c κs = search needs
@@ -37,6 +34,9 @@ part-fill-end c = search needs
 slice-aggregate-fill : tie.Need-slice-aggregate-fill Inv-loop μ-loop
 slice-aggregate-fill c = search needs
 
+slice-aggregate-fill-2 : tie.Need-slice-aggregate-fill-2 Inv-loop μ-loop
+slice-aggregate-fill-2 c = search needs
+
 fill-requires : tie.Need-fill-requires Inv-loop μ-loop
 fill-requires c κs = search needs
 
@@ -45,6 +45,9 @@ slice-aggregate-stored-to c = search needs
 
 stored-to-requires : tie.Need-stored-to-requires Inv-loop μ-loop
 stored-to-requires c κs = search needs
+
+has-ended-requires : tie.Need-has-ended-requires Inv-loop μ-loop
+has-ended-requires c κs = search needs
 
 after-requires : tie.Need-after-requires Inv-loop μ-loop
 after-requires c κs = search needs
@@ -55,11 +58,14 @@ loop-less c = search needs
 loop-again : tie.Need-loop-again Inv-loop μ-loop
 loop-again c = search needs
 
-slice-aggregate-finish : tie.Need-slice-aggregate-finish Inv-loop μ-loop
-slice-aggregate-finish c = search needs
+slice-aggregate-last : tie.Need-slice-aggregate-last Inv-loop μ-loop
+slice-aggregate-last c = search needs
 
-finish-requires : tie.Need-finish-requires Inv-loop μ-loop
-finish-requires c κs = search needs
+slice-aggregate-last-2 : tie.Need-slice-aggregate-last-2 Inv-loop μ-loop
+slice-aggregate-last-2 c = search needs
+
+last-requires : tie.Need-last-requires Inv-loop μ-loop
+last-requires c κs = search needs
 
 slice-aggregate-stored-to-2 : tie.Need-slice-aggregate-stored-to-2 Inv-loop μ-loop
 slice-aggregate-stored-to-2 c = search needs
@@ -70,13 +76,12 @@ stored-to-requires-2 c κs = search needs
 returns : tie.Need-returns Inv-loop μ-loop
 returns c = search needs
 
-pub fills-spec : {M : Type 1} → statement M
-fills-spec =
+pub runs-spec : {M : Type 1} → statement M
+runs-spec =
     tie.close
     (tie.spec
     Inv-loop
     μ-loop
-    new-requires
     header-requires
     loop-holds
     end-requires
@@ -84,14 +89,17 @@ fills-spec =
     part-fill-start
     part-fill-end
     slice-aggregate-fill
+    slice-aggregate-fill-2
     fill-requires
     slice-aggregate-stored-to
     stored-to-requires
+    has-ended-requires
     after-requires
     loop-less
     loop-again
-    slice-aggregate-finish
-    finish-requires
+    slice-aggregate-last
+    slice-aggregate-last-2
+    last-requires
     slice-aggregate-stored-to-2
     stored-to-requires-2
     returns)
