@@ -1,6 +1,7 @@
 //! What is stored for the crate `cases`: the files of its folder `data`, each case with one line that says what
 //! it is for, and `args` and `stdout`, which name and count them. `wanted` makes all of it anew, but for the
-//! traces that were given; `read` takes it in.
+//! traces that were given; `read` takes it in. (The folder `trial`, and what stands behind the counts in `stdout`, are
+//! made by the project's bin/stored.)
 
 use crate::dump::{sheet_bytes, waves_bytes};
 use crate::dump_vectors::{dumps, DUMPS_OF_TRACES};
@@ -233,11 +234,22 @@ pub fn wanted(cases: &Path) -> io::Result<Files> {
     Ok(store.all())
 }
 
+/// Where the counts of `stdout` end: at its first line that begins with `== `. Every other file is the peer's to its end.
+fn own_end(name: &str, stored: &[u8]) -> usize {
+    match name {
+        "stdout" => stored.windows(4).position(|w| w == b"\n== ").map_or(stored.len(), |at| at + 1),
+        _ => stored.len(),
+    }
+}
+
 /// Every file below a folder, but those of a program's own.
 fn found(cases: &Path) -> io::Result<Vec<String>> {
     let mut all = Vec::new();
     for folder in std::fs::read_dir(cases.join("data"))? {
         let folder = folder?.path();
+        if folder.ends_with("trial") {
+            continue;
+        }
         for file in std::fs::read_dir(&folder)? {
             let path = file?.path();
             all.push(path.strip_prefix(cases).unwrap_or(&path).to_string_lossy().into_owned());
@@ -253,7 +265,7 @@ pub fn check(cases: &Path) -> io::Result<Vec<String>> {
     let mut wrong: Vec<String> = more.map(|name| format!("{name} has no line, or is of no case")).collect();
     for (name, bytes) in &wanted {
         match std::fs::read(cases.join(name)) {
-            Ok(stored) if stored == *bytes => {}
+            Ok(stored) if stored[..own_end(name, &stored)] == *bytes => {}
             Ok(_) => wrong.push(format!("{name} is not what the peer writes")),
             Err(e) => wrong.push(format!("{name}: {e}")),
         }
@@ -267,12 +279,17 @@ pub fn write(cases: &Path) -> io::Result<(usize, usize)> {
     let mut changed = 0;
     for (name, bytes) in &wanted {
         let path = cases.join(name);
-        if std::fs::read(&path).is_ok_and(|old| old == *bytes) {
+        let old = std::fs::read(&path);
+        let (own, behind) = match &old {
+            Ok(old) => old.split_at(own_end(name, old)),
+            Err(_) => (&[][..], &[][..]),
+        };
+        if old.is_ok() && own == bytes {
             continue;
         }
         changed += 1;
         std::fs::create_dir_all(path.parent().unwrap_or(cases))?;
-        std::fs::write(path, bytes)?;
+        std::fs::write(path, [bytes, behind].concat())?;
     }
     Ok((wanted.len(), changed))
 }
