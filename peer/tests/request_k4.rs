@@ -571,13 +571,18 @@ fn the_program_with_its_words_and_files() {
 fn compare_runs_the_wall() {
     use std::os::unix::fs::PermissionsExt;
     let folder = folder("compare");
+    // As in bin/, the status is the program's own, or 1 where that is 0 and something was said.
+    let status = r#"own=$?; cat "$0.said" >&2; [ $own = 0 ] && [ -s "$0.said" ] && exit 1; exit $own"#;
     let put = |name: &str, text: &str| {
         let path = folder.join(name);
-        std::fs::write(&path, format!("#!/bin/sh\n{text}\n")).unwrap();
+        std::fs::write(&path, format!("#!/bin/sh\n(\n{text}\n) 2>\"$0.said\"\n{status}\n")).unwrap();
         std::fs::set_permissions(&path, std::fs::Permissions::from_mode(0o755)).unwrap();
     };
     let wall = env!("CARGO_BIN_EXE_peer-wall");
-    put("replay", &format!("exec {}", env!("CARGO_BIN_EXE_peer-replay")));
+    // It takes no words.
+    let replay = env!("CARGO_BIN_EXE_peer-replay");
+    let replay = |bad_use: &str| format!("[ $# = 0 ] || {bad_use}\nexec {replay}");
+    put("replay", &replay("{ echo 'replay: use: replay < TRACE' >&2; exit; }"));
     let compare = |more: &[&str]| {
         let without = ["--without", "waves", "--without", "sheet", "--without", "handover"];
         let args = [&["1", "2", "--bin", folder.to_str().unwrap()], &without[..], more].concat();
@@ -615,5 +620,18 @@ fn compare_runs_the_wall() {
     }
     put("wall", &format!("echo hm >&2\n{sound}"));
     assert_eq!(compare(&["--stdout-only"]).0, Some(0));
+    // Words that `replay` should not take: it does, says nothing, not how it is used, or has another status.
+    put("wall", &sound);
+    for (bad_use, reason) in [
+        ("shift", "output line 1"),
+        ("exit 0", "no line on standard error"),
+        ("{ echo 'replay: hm' >&2; exit; }", "not one line `replay: ..use: ..`"),
+        ("{ echo 'replay: use: hm' >&2; exit 3; }", "status Some(3), not 1"),
+    ] {
+        put("replay", &replay(bad_use));
+        let (status, said) = compare(&[]);
+        let told = said.contains("DIFFERENT: ") && said.contains(&format!("replay lesson.in: {reason}"));
+        assert!(status == Some(1) && told, "{bad_use}\n{said}");
+    }
     std::fs::remove_dir_all(&folder).unwrap();
 }

@@ -1,104 +1,106 @@
-// Every word of the programs, by the function that the program calls, on stored input that is read in several parts: a CRLF lies across the
+// Every word of the programs, by the functions that the programs call, on stored input that is read in several parts: a CRLF lies across the
 // end of one, and the last row lacks its own. What `save` wrote is shown, gone on from, and still there where nothing was saved. What is
 // written is held to what the peer wrote.
-use commands::images;
-use commands::walls;
+use commands::uses::by_words;
 use libc::STDOUT_FILENO;
-use running::traces;
 
-// The lesson, the lesson up to where it is handed over, its further trace, a trace that is torn, and a long dump.
-const LESSON: [u8; 15] = *b"trial/lesson.in";
-
+// The lesson up to where it is handed over, its further trace, and where its image is saved.
 const FIRST: [u8; 14] = *b"trial/first.in";
 
 const ONWARD: [u8; 15] = *b"trial/onward.in";
 
-const TORN: [u8; 13] = *b"trial/torn.in";
-
-const DUMP: [u8; 14] = *b"trial/long.vcd";
-
-// Where images are saved.
 const IMAGE: [u8; 16] = *b"trial/lesson.img";
 
-const TORN_IMAGE: [u8; 14] = *b"trial/torn.img";
-
-// All words. Where nothing is read, or what a lesson is to go on from is no image, there is nothing to save, and the image is as it was; a
-// torn last row does not lose the lesson.
+// All words, and some that there are not.
 pub(crate) fn all() {
-    lesson();
-    save(b"== handover save trial/lesson.img < ", &FIRST, &IMAGE);
-    onward();
-    save_onward(
-        b"== handover save trial/lesson.img trial/lesson.img < ",
-        &IMAGE,
-    );
-    save_onward(
-        b"== handover save trial/lesson.img trial/first.in < ",
-        &FIRST,
-    );
-    save(
-        b"== handover save trial/lesson.img < ",
-        b"/dev/null",
-        &IMAGE,
-    );
-    save(b"== handover save trial/torn.img < ", &TORN, &TORN_IMAGE);
-    io::write_all(STDOUT_FILENO, b"== wall csv\n");
-    walls::csv(STDOUT_FILENO);
-    io::write_all(STDOUT_FILENO, b"== wall page\n");
-    walls::page(STDOUT_FILENO);
+    replay(b"trial/lesson.in");
+    alone(b"waves", b"trial/lesson.in");
+    alone(b"sheet", b"trial/long.vcd");
+    save(&IMAGE, &FIRST);
+    handover(b"resume", &IMAGE, &ONWARD);
+    waves_onward();
+    kept();
+    alone(b"wall", b"/dev/null");
+    wall(b"csv");
+    wall(b"page");
 }
 
-// Puts out which word comes next, and opens what it reads.
-fn open(word: &[u8], path: &[u8]) -> i32 {
-    io::write_all(STDOUT_FILENO, word);
-    io::write_all(STDOUT_FILENO, path);
-    io::write_all(STDOUT_FILENO, b"\n");
-    os::open_read(path)
+// Where nothing is read, what a lesson is to go on from is no image, or what would be replaced is none, nothing is saved, and what stands there
+// is as it was; a torn last row does not lose the lesson.
+fn kept() {
+    save_onward(&IMAGE);
+    save_onward(&FIRST);
+    save(&IMAGE, b"/dev/null");
+    save(&FIRST, &FIRST);
+    save(b"trial/torn.img", b"trial/torn.in");
 }
 
-// The lesson by `replay` and `waves`, and a dump by `sheet`.
-fn lesson() {
-    let rows = open(b"== replay < ", &LESSON);
-    traces::replay(rows, STDOUT_FILENO);
-    libc::close(rows);
-    let moments = open(b"== waves < ", &LESSON);
-    traces::waves(moments, STDOUT_FILENO);
-    libc::close(moments);
-    let dump = open(b"== sheet < ", &DUMP);
-    traces::sheet(dump, STDOUT_FILENO);
-    libc::close(dump);
-}
-
-// The lesson goes on from the image.
-fn onward() {
-    let rows = open(b"== handover resume trial/lesson.img < ", &ONWARD);
-    images::resume(rows, STDOUT_FILENO, &IMAGE);
-    libc::close(rows);
-    let moments = open(b"== waves trial/lesson.img < ", &ONWARD);
-    images::waves(moments, STDOUT_FILENO, &IMAGE);
-    libc::close(moments);
-}
-
-// A lesson is handed over from a fresh start.
-fn save(word: &[u8], path: &[u8], image: &[u8]) {
-    let trace = open(word, path);
-    images::save(trace, STDOUT_FILENO, image);
+// A trace by `replay`.
+fn replay(path: &[u8]) {
+    say(b"replay", b"", b"", b"", path);
+    let trace = os::open_read(path);
+    running::traces::replay(trace, STDOUT_FILENO);
     libc::close(trace);
-    show(image);
+}
+
+// A word by itself.
+fn alone(word: &[u8], path: &[u8]) {
+    say(word, b"", b"", b"", path);
+    does(2, word, b"", b"", b"", path);
+}
+
+// The dump of a lesson that goes on from the image.
+fn waves_onward() {
+    say(b"waves", &IMAGE, b"", b"", &ONWARD);
+    does(3, b"waves", &IMAGE, b"", b"", &ONWARD);
+}
+
+fn wall(word: &[u8]) {
+    say(b"wall", word, b"", b"", b"/dev/null");
+    does(3, b"wall", word, b"", b"", b"/dev/null");
+}
+
+fn handover(word: &[u8], image: &[u8], path: &[u8]) {
+    say(b"handover", word, image, b"", path);
+    does(4, b"handover", word, image, b"", path);
+}
+
+// A lesson is handed over from a fresh start; what then stands at the path.
+fn save(image: &[u8], path: &[u8]) {
+    handover(b"save", image, path);
+    handover(b"show", image, b"/dev/null");
 }
 
 // The lesson is handed over again, from what stands at a path.
-fn save_onward(word: &[u8], old: &[u8]) {
-    let trace = open(word, &ONWARD);
-    images::save_onward(trace, STDOUT_FILENO, &IMAGE, old);
-    libc::close(trace);
-    show(&IMAGE);
+fn save_onward(old: &[u8]) {
+    say(b"handover", b"save", &IMAGE, old, &ONWARD);
+    does(5, b"handover", b"save", &IMAGE, old, &ONWARD);
+    handover(b"show", &IMAGE, b"/dev/null");
 }
 
-// What stands at a path.
-fn show(image: &[u8]) {
-    io::write_all(STDOUT_FILENO, b"== handover show ");
-    io::write_all(STDOUT_FILENO, image);
+// What the words ask for, with a file as its input.
+fn does(count: usize, first: &[u8], second: &[u8], third: &[u8], fourth: &[u8], path: &[u8]) {
+    let input = os::open_read(path);
+    by_words(count, first, second, third, fourth, input, STDOUT_FILENO);
+    libc::close(input);
+}
+
+// Puts out which words come next, and what they read.
+fn say(first: &[u8], second: &[u8], third: &[u8], fourth: &[u8], path: &[u8]) {
+    io::write_all(STDOUT_FILENO, b"==");
+    word(first);
+    word(second);
+    word(third);
+    word(fourth);
+    word(b"<");
+    word(path);
     io::write_all(STDOUT_FILENO, b"\n");
-    images::show(STDOUT_FILENO, image);
+}
+
+// A word, with the blank in front of it, if there is one.
+fn word(text: &[u8]) {
+    if text.len() != 0 {
+        io::write_all(STDOUT_FILENO, b" ");
+        io::write_all(STDOUT_FILENO, text);
+    }
 }

@@ -1,5 +1,6 @@
-// An input and what a task of the programs writes of it: NAME and an ending each. It is taken in part by part, as the programs do it, into an
-// output buffer that a part often fills more than once.
+// An input and what a task of the programs writes of it: NAME and an ending each. It is taken in part by part, by the calls that the programs'
+// loop makes, into an output buffer that a part often fills more than once. Behind a refusal that ended the reading nothing may come of what is
+// left.
 use crate::files;
 use crate::parts;
 use crate::rows;

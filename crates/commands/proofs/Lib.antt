@@ -3,3 +3,4 @@ pub mod Putting
 pub mod Told
 pub mod Runs
 pub mod Shows
+pub mod OneOf

@@ -2,7 +2,7 @@
 -- image; and what is said on standard output beside it.
 -- Assumes nothing.
 use Prim.Native.Nat.{ℕ, _≤_}
-use mathlib.Core.Bool.{Bool, cond}
+use mathlib.Core.Bool.{Bool, cond, _||_}
 use mathlib.Core.List.{List, [], _∷_, _++_}
 use mathlib.Core.Path.{_≡_}
 use lib.Dec.{T}
@@ -11,6 +11,7 @@ use Rattle.common.specs.Ascii.{ascii, lf}
 use Rattle.common.specs.Decimal.{decimal}
 use Rattle.controller.specs.declared.State.{State}
 use Rattle.controller.specs.Start.{freshOf}
+use Rattle.trace.specs.Header.{sameText}
 use Rattle.reading.specs.Rows.{hasStarted}
 use Rattle.plain.specs.Plain.{plainOf}
 use Rattle.commands.specs.declared.saving.Loaded.{Loaded}
@@ -21,6 +22,12 @@ use Rattle.running.specs.declared.Ran.{Ran}
 use Rattle.running.specs.Loops.{RanFrom}
 use Rattle.commands.specs.declared.images.Saved.{Saved}
 use Rattle.commands.specs.declared.images.Shown.{Shown}
+
+-- ---- Which words there are
+
+-- The first word of those that `desk` is given.
+abbrev pub isFirstWord : List ℕ → Bool
+isFirstWord word = sameText word (ascii "waves") || (sameText word (ascii "sheet") || (sameText word (ascii "handover") || sameText word (ascii "wall")))
 
 -- ---- From a controller
 

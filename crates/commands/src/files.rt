@@ -107,6 +107,16 @@ pub(crate) fn sync_directory(path: &[u8]) -> bool {
     synced == 0
 }
 
+// Whether there is a directory that a path lies in, and it can be opened.
+pub(crate) fn has_directory(path: &[u8]) -> bool {
+    let fd = open_directory(path);
+    if fd < 0 {
+        return false;
+    }
+    libc::close(fd);
+    true
+}
+
 // Opens the directory that a path lies in.
 fn open_directory(path: &[u8]) -> i32 {
     let n = behind_slash(path);

@@ -7,6 +7,7 @@ ghost use Rattle.running.specs.declared.Task.the-variants.{Rows, Waves};
 ghost use Rattle.controller.specs.Start.{freshOf};
 ghost use Rattle.reading.specs.Rows.{hasStarted};
 ghost use Rattle.commands.specs.Words.{LoadedFrom, Onward, SavedFrom, SavedOnward, savedText, shownText, ShownRight};
+use crate::messages;
 use crate::saving;
 use crate::saving::Loaded;
 use crate::saving::ROOM;
@@ -16,11 +17,10 @@ use reading::Run;
 use running::Ran;
 use running::Task;
 use running::Work;
+use running::traces::WAVES;
 
-// The names that the programs go by on standard error.
+// The name that these words go by on standard error.
 const HANDOVER: [u8; 8] = *b"handover";
-
-const WAVES: [u8; 5] = *b"waves";
 
 // A run of saving: whether the image stands at its path, and the run of the trace.
 pub struct Saved {
@@ -49,7 +49,7 @@ pub fn save_onward(from: i32, to: i32, new: &[u8], old: &[u8]) -> Saved
     if loaded.taken {
         return save_from(from, to, new, loaded.state);
     }
-    saving::say_of(&HANDOVER, new, b"nothing was saved");
+    messages::say(&HANDOVER, new, b"nothing was saved");
     unsaved(not_run())
 }
 
@@ -103,7 +103,7 @@ fn load(name: &[u8], path: &[u8]) -> Loaded
 {
     let loaded = read(name, path);
     if loaded.blank {
-        saving::say_of(
+        messages::say(
             name,
             path,
             b"every item of this image is 0, as a lost write leaves it",
@@ -120,8 +120,8 @@ fn read(name: &[u8], path: &[u8]) -> Loaded
     saving::load(name, path, &mut bytes)
 }
 
-// Runs the trace from a controller, and puts the image of its last state at a path. Where no image may stand there that is said before the trace
-// is read, and not when a lesson is over.
+// Runs the trace from a controller, and puts the image of its last state at a path. That no image may stand there, or that there
+// is no such directory, is said before the trace is read.
 fn save_from(from: i32, to: i32, new: &[u8], state: State) -> Saved
     ensures { λ r. ⌜ SavedFrom state r ⌝ }
 {
@@ -140,7 +140,7 @@ fn save_left(to: i32, new: &[u8], ran: Ran) -> bool
     ensures { λ r. ⌜ (T r → T (ran .well) × T (hasStarted (ran .work .run .reading .phase))) ⌝ }
 {
     if !ran.well {
-        saving::say_of(&HANDOVER, new, b"nothing was saved");
+        messages::say(&HANDOVER, new, b"nothing was saved");
         return false;
     }
     let work = ran.work;
@@ -149,7 +149,7 @@ fn save_left(to: i32, new: &[u8], ran: Ran) -> bool
     if phase.has_started() {
         return keep(to, new, run);
     }
-    saving::say_of(&HANDOVER, new, b"nothing was saved: the trace has no row 0");
+    messages::say(&HANDOVER, new, b"nothing was saved: the trace has no row 0");
     false
 }
 
@@ -158,7 +158,7 @@ fn keep(to: i32, new: &[u8], run: Run) -> bool {
     let mut bytes = [0u8; SIZE];
     let saved = handing::save_last(run, &mut bytes);
     if saved.written != SIZE {
-        saving::say_of(&HANDOVER, new, b"nothing was saved: refusal 8");
+        messages::say(&HANDOVER, new, b"nothing was saved: refusal 8");
         return false;
     }
     if saving::replace(&HANDOVER, new, &bytes) {
@@ -173,7 +173,7 @@ fn tell(to: i32, new: &[u8], line: u64) {
     let mut out = [0u8; 4352];
     let end = put_told(&mut out, new, line);
     if !words::put(&HANDOVER, to, &out, end) {
-        saving::say_of(&HANDOVER, new, b"it is saved all the same");
+        messages::say(&HANDOVER, new, b"it is saved all the same");
     }
 }
 
@@ -194,7 +194,7 @@ fn unsaved(ran: Ran) -> Saved
     Saved { saved: false, ran }
 }
 
-// Nothing was run, since there is no image to go on from.
+// Nothing was run: there is no image to go on from, or no place for a new one.
 fn not_run() -> Ran
     ensures { λ r. ⌜ r .well ≡ false ⌝ }
 {

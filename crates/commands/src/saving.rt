@@ -3,13 +3,10 @@
 // what an operating system does nothing can be promised: the contracts promise what is made of the bytes.
 ghost use mathlib.Core.Bool.{false};
 ghost use mathlib.Core.Path.{_≡_};
-ghost use Prim.Native.Nat.{_≤_};
 ghost use lib.Dec.{T};
-ghost use lib.ListN.{length, take};
+ghost use lib.ListN.{take};
 ghost use Rattle.image.specs.Images.{refusalOf};
-ghost use Rattle.words.specs.Messages.{isAtOnce};
 ghost use Rattle.commands.specs.Loading.{loadedOf, notRead, mayStand};
-ghost use Rattle.commands.specs.Messages.{saidOf};
 use crate::files;
 use crate::messages;
 use controller::State;
@@ -87,17 +84,17 @@ pub(crate) fn may_replace(name: &[u8], path: &[u8]) -> bool {
     if fd < 0 {
         return is_free(name, path, os::errno());
     }
+    if libc::fsync(fd) != 0 {
+        libc::close(fd);
+        messages::say(name, path, b"nothing was saved: this is no file on a disk");
+        return false;
+    }
     let mut bytes = [0u8; ROOM];
     let got = files::read(fd, &mut bytes);
     let error = os::errno();
-    let synced = libc::fsync(fd);
     libc::close(fd);
     if !got.well {
         return not_saved(name, path, error);
-    }
-    if synced != 0 {
-        messages::say(name, path, b"nothing was saved: this is no file on a disk");
-        return false;
     }
     if may_stand(got.n) {
         return true;
@@ -108,13 +105,6 @@ pub(crate) fn may_replace(name: &[u8], path: &[u8]) -> bool {
         b"nothing was saved: what stands there is no image",
     );
     false
-}
-
-// Says this of a file, in one line on standard error, as the other functions do; an empty path is left out. Answers as `words::say` does.
-pub(crate) fn say_of(name: &[u8], path: &[u8], what: &[u8]) -> bool
-    ensures { λ r. ⌜ (length (saidOf (now (path .entry)) (now (what .entry))) ≤ 4352 → r ≡ isAtOnce (now (name .entry)) (saidOf (now (path .entry)) (now (what .entry)))) ⌝ }
-{
-    messages::say(name, path, what)
 }
 
 // Nothing was read.
@@ -160,9 +150,9 @@ fn may_stand(n: usize) -> bool
     (n == 0) | (n == image::SIZE)
 }
 
-// A path that cannot be read is free where nothing stands there.
+// A path that cannot be read is free where nothing stands there, in a directory that there is.
 fn is_free(name: &[u8], path: &[u8], error: i32) -> bool {
-    if (path.len() != 0) & (error == libc::ENOENT) {
+    if (path.len() != 0) & (error == libc::ENOENT) & files::has_directory(path) {
         return true;
     }
     not_saved(name, path, error)

@@ -15,6 +15,7 @@ use Rattle.reading.specs.Parts.{lineBytes}
 use Rattle.reading.specs.Runs.{inputOf}
 use Rattle.loops.specs.declared.Progress.{Progress}
 use Rattle.loops.specs.Progresses.{readPart, notRead, goesOn, leftIn}
+use Rattle.loops.proofs.Laws.{stops-at-the-end-or-a-refusal}
 use Rattle.running.specs.declared.Task.{Task}
 use Rattle.running.specs.declared.Work.{Work}
 use Rattle.running.specs.declared.At.{At}
@@ -62,19 +63,6 @@ drop-take (suc m) zero l =
 drop-take (suc m) (suc n) [] = sym (take-nil (suc n - suc m))
 drop-take (suc m) (suc n) (x ∷ l) =
     let e : n - m ≡ suc n - suc m = omega arith in drop-take m n l ∙ ap (λ (k : ℕ). take k (drop m l)) e
-
--- The loop stopped where nothing failed: the input has ended, or a refusal has ended the reading.
-stopped : (well end ended : Bool) → T well → (well && (not end && not ended)) ≡ false → T (end || ended)
-stopped true true ended t h = Prim.tt
-stopped true false true t h = Prim.tt
-stopped true false false t h = let n : _≡_ {A = ℕ} 0 1 = cc in absurd (omega arith)
-stopped false end ended t h = absurd t
-
--- Where it goes on the input has not ended.
-pub going : (well end ended : Bool) → (well && (not end && not ended)) ≡ true → end ≡ false
-going true true ended h = let n : _≡_ {A = ℕ} 0 1 = cc in absurd (omega arith)
-going true false ended h = refl
-going false end ended h = let n : _≡_ {A = ℕ} 0 1 = cc in absurd (omega arith)
 
 is-true : (b : Bool) → T b → b ≡ true
 is-true true t = refl
@@ -215,7 +203,7 @@ module _ (task : Task) (before : ℕ) (comes : List ℕ → Come) where
     pub finished : Through task before comes ran
     finished =
         by-end (place .progress .end) refl
-        (stopped (place .progress .well) (place .progress .end) (isEnded task (place .work)) (f .was-well) stop) where
+        (stops-at-the-end-or-a-refusal (place .progress) (isEnded task (place .work)) (f .was-well) stop) where
           done : allOf task (place .work) line (leftOf place input ++ []) ≡ allOf task (place .work) line [] → T (ran .end || isEnded task (ran .work))
               → Through task before comes ran
           done nothing o =

@@ -19,7 +19,8 @@ use Rattle.running.specs.Works.{Answer, Come, isEnded, fillOf, lastOf, w
 
 -- ---- A step
 
--- A read answered so many bytes, which lie in the input buffer, and they are the part; or it failed, and is to be tried again or not.
+-- After a read: so many bytes of the input buffer are the part, with none the input has ended; or it failed, and is to be tried again or not.
+-- (That the number is the one that `read` answered no contract can say: it is read in the body of `read`.)
 pub data AfterRead (before after : Progress) (input : List ℕ) : Type 0 where
   answers : (n : ℕ) → n ≤ length input → after ≡ readPart before n → AfterRead before after input
   fails : (again : Bool) → after ≡ notRead before again → AfterRead before after input
@@ -28,7 +29,7 @@ pub data AfterRead (before after : Progress) (input : List ℕ) : Type 0 where
 abbrev pub leftOf : At → List ℕ → List ℕ
 leftOf at input = leftIn (at .progress) input
 
--- A step that takes in: the work, what is used of the part, the line buffer and what is handed to `write`, which is as many bytes of the output
+-- A step that takes in: the work, what is used of the part, the line buffer and what is ready for `write`, which is as many bytes of the output
 -- buffer as are said to be written, are those that `fillOf` gives of what is left of the part. It did not go well where that was refused.
 abbrev pub filledAt : At → Bool → Answer → At × List ℕ × List ℕ
 filledAt before well answer = (
@@ -69,9 +70,10 @@ pub record AfterLast (task : Task) (before : At) (after : Ran) (line line′ out
 
 -- ---- The whole loop
 
--- What a loop that went well has done: there are parts of the input, those that the reads left, and what it put out and the work that it leaves
--- are those of all of them, as one. So many bytes were put out as that text has, behind those before it; and it stopped at the end of the input, or where a refusal
--- ended the reading.
+-- What a loop that went well has done: there are parts of an input, and what was made ready and the work that it leaves are those of all of
+-- them, as one. So many bytes were made ready as that text has, behind those before it; and it stopped at the end of the input, or where a
+-- refusal ended the reading. (That the parts are those that the reads left, one after the other, is how `all` makes them; `Through` by itself
+-- would also be met by a loop that reads nothing.)
 pub record Through (task : Task) (before : ℕ) (comes : List ℕ → Come) (ran : Ran) : Type 0 where
   pub parts : List (List ℕ)
   pub text : List ℕ
@@ -79,6 +81,6 @@ pub record Through (task : Task) (before : ℕ) (comes : List ℕ → Come) (ran
   pub counted : ran .put ≡ (before + length text) % 2 ^ 64
   pub over : T (ran .end || isEnded task (ran .work))
 
--- The whole run of a task from a controller, with all that the reads left, where it went well.
+-- The whole run of a task from a controller over some parts, where it went well.
 abbrev pub RanFrom : Task → State → Ran → Type 0
 RanFrom task state ran = T (ran .well) → Through task 0 (wholeOf task state) ran

@@ -6,10 +6,10 @@ use crate::Ran;
 use crate::Task;
 use controller::State;
 
-// The names that the programs go by on standard error.
+// The names that these go by on standard error.
 const REPLAY: [u8; 6] = *b"replay";
 
-const WAVES: [u8; 5] = *b"waves";
+pub const WAVES: [u8; 5] = *b"waves";
 
 const SHEET: [u8; 5] = *b"sheet";
 

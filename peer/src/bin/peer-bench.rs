@@ -1,5 +1,5 @@
-//! `peer-bench REPS REPLAY WAVES BIN DIR`: REPLAY and the peer's in BIN on the same long nominal
-//! traces, then WAVES (`-` for none) and the peer's on the longest; files in DIR.
+//! `peer-bench REPS REPLAY BIN DIR WAVES [WORD..]`: REPLAY and the peer's in BIN on the same long nominal
+//! traces, then WAVES with its WORDs (`-` for none) and the peer's on the longest; files in DIR.
 use peer::gen::{trace, KINDS};
 use std::fs::File;
 use std::path::Path;
@@ -20,29 +20,36 @@ fn run(mut command: Command, input: &Path, output: &Path) -> std::io::Result<f64
     }
 }
 
+/// A program and its words.
+fn command(program: &[String]) -> Command {
+    let mut command = Command::new(&program[0]);
+    command.args(&program[1..]);
+    command
+}
+
 /// Peak resident memory in KB, by GNU time.
-fn memory(program: &str, input: &Path, dir: &Path) -> Option<u64> {
+fn memory(program: &[String], input: &Path, dir: &Path) -> Option<u64> {
     let report = dir.join("memory");
     let mut command = Command::new("/usr/bin/time");
-    command.args(["-f", "%M", "-o"]).arg(&report).arg(program);
+    command.args(["-f", "%M", "-o"]).arg(&report).args(program);
     run(command, input, Path::new("/dev/null")).ok()?;
     std::fs::read_to_string(report).ok()?.trim().parse().ok()
 }
 
 /// Programs, each with its name, on one trace, the peer's last. True if their outputs are equal.
-fn measure(reps: usize, programs: &[(&str, &str)], rows: u64, dir: &Path) -> std::io::Result<bool> {
+fn measure(reps: usize, programs: &[(&str, &[String])], rows: u64, dir: &Path) -> std::io::Result<bool> {
     let input = dir.join("trace.in");
     // Untimed, to warm up and to compare; then timed in turn, with the output thrown away.
     let mut outputs = Vec::new();
     for (_, program) in programs {
-        run(Command::new(program), &input, &dir.join("out"))?;
+        run(command(program), &input, &dir.join("out"))?;
         outputs.push(std::fs::read(dir.join("out"))?);
     }
     let count = programs.len();
     let mut best = vec![f64::MAX; count];
     for turn in 0..count * reps {
         let n = (turn + turn / count) % count;
-        best[n] = best[n].min(run(Command::new(programs[n].1), &input, Path::new("/dev/null"))?);
+        best[n] = best[n].min(run(command(programs[n].1), &input, Path::new("/dev/null"))?);
     }
     for (n, (name, program)) in programs.iter().enumerate() {
         let kb = memory(program, &input, dir).map_or("?".into(), |kb| kb.to_string());
@@ -52,20 +59,22 @@ fn measure(reps: usize, programs: &[(&str, &str)], rows: u64, dir: &Path) -> std
     Ok(outputs.windows(2).all(|pair| pair[0] == pair[1]))
 }
 
-fn bench(reps: usize, replay: &str, waves: &str, bin: &Path, dir: &Path) -> std::io::Result<bool> {
-    let peer = |name: &str| bin.join(name).to_string_lossy().into_owned();
+fn bench(reps: usize, replay: &str, waves: &[String], bin: &Path, dir: &Path) -> std::io::Result<bool> {
+    let replay = [replay.to_string()];
+    let peer = |name: &str| [bin.join(name).to_string_lossy().into_owned()];
     let (peer_replay, peer_waves) = (peer("peer-replay"), peer("peer-waves"));
     println!("     rows  program      best s       rows/s   ratio  memory KB");
     let mut equal = true;
     for rows in SIZES {
         std::fs::write(dir.join("trace.in"), trace(2014, KINDS[0], Some(rows)).unwrap())?;
-        equal &= measure(reps, &[("REPLAY", replay), ("peer", &peer_replay)], rows, dir)?;
+        equal &= measure(reps, &[("REPLAY", &replay), ("peer", &peer_replay)], rows, dir)?;
     }
-    let both = [("WAVES", waves), ("peer-waves", &peer_waves)];
-    let programs = if waves == "-" { &both[1..] } else { &both[..] };
+    let both = [("WAVES", waves), ("peer-waves", &peer_waves[..])];
+    let left_out = waves[0] == "-";
+    let programs = if left_out { &both[1..] } else { &both[..] };
     equal &= measure(reps, programs, SIZES[2], dir)?;
     println!("ratio: time over the peer's; outputs {}", if equal { "equal" } else { "DIFFERENT" });
-    if waves == "-" {
+    if left_out {
         println!("WAVES left out");
     }
     Ok(equal)
@@ -73,8 +82,8 @@ fn bench(reps: usize, replay: &str, waves: &str, bin: &Path, dir: &Path) -> std:
 
 fn main() -> ExitCode {
     let args: Vec<String> = std::env::args().skip(1).collect();
-    let [reps, replay, waves, bin, dir] = &args[..] else {
-        eprintln!("usage: peer-bench REPS REPLAY WAVES BIN DIR");
+    let ([reps, replay, bin, dir, waves @ ..], true) = (&args[..], args.len() > 4) else {
+        eprintln!("usage: peer-bench REPS REPLAY BIN DIR WAVES [WORD..]");
         return ExitCode::from(2);
     };
     match bench(reps.parse().unwrap_or(3).max(1), replay, waves, Path::new(bin), Path::new(dir)) {

@@ -9,7 +9,8 @@ use lib.ListN.{length}
 use Rattle.loops.specs.Progresses.{atFirst, goesOn}
 use Rattle.running.specs.Works.{isEnded, allOf}
 use Rattle.running.specs.Loops.{leftOf}
-use Rattle.running.proofs.Along.{Along, begins, going, stepped, finished}
+use Rattle.loops.proofs.Laws.{goes-on-before-the-end}
+use Rattle.running.proofs.Along.{Along, begins, stepped, finished}
 use borrow.Author.Needs.{needs}
 use Rattle.running.proofs.all.Statement.{statement}
 use Rattle.running.proofs.all.Tie as tie
@@ -92,7 +93,7 @@ loop-again c =
       s .kept .1 .1 .1 .1 .1 .1 .1 .0 ∙ at .inv .2,
       kept .ordered,
       kept .inside,
-      going (s .result .progress .well) (s .result .progress .end) (isEnded (a .task) (s .result .work)) on,
+      goes-on-before-the-end (s .result .progress) (isEnded (a .task) (s .result .work)) on,
       kept .so-far,
     )
 

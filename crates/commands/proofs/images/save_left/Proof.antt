@@ -7,14 +7,14 @@ use borrow.Author.Needs.{needs}
 use Rattle.commands.proofs.images.save_left.Statement.{statement}
 use Rattle.commands.proofs.images.save_left.Tie as tie
 
-slice-aggregate-say-of : tie.Need-slice-aggregate-say-of
-slice-aggregate-say-of c = search needs
+slice-aggregate-say : tie.Need-slice-aggregate-say
+slice-aggregate-say c = search needs
 
-slice-aggregate-say-of-2 : tie.Need-slice-aggregate-say-of-2
-slice-aggregate-say-of-2 c = search needs
+slice-aggregate-say-2 : tie.Need-slice-aggregate-say-2
+slice-aggregate-say-2 c = search needs
 
-say-of-requires : tie.Need-say-of-requires
-say-of-requires c κs = search needs
+say-requires : tie.Need-say-requires
+say-requires c κs = search needs
 
 returns : tie.Need-returns
 returns c = λ t. absurd t
@@ -37,14 +37,14 @@ returns-2 c =
       holds (hasStarted (ran .work .run .reading .phase)) (ap hasStarted (sym (asked .before .phase .ensures)) ∙ sym (asked .has-started .ensures) ∙ c .before .if2 .taken),
     )
 
-slice-aggregate-say-of-3 : tie.Need-slice-aggregate-say-of-3
-slice-aggregate-say-of-3 c = search needs
+slice-aggregate-say-3 : tie.Need-slice-aggregate-say-3
+slice-aggregate-say-3 c = search needs
 
-slice-aggregate-say-of-4 : tie.Need-slice-aggregate-say-of-4
-slice-aggregate-say-of-4 c = search needs
+slice-aggregate-say-4 : tie.Need-slice-aggregate-say-4
+slice-aggregate-say-4 c = search needs
 
-say-of-requires-2 : tie.Need-say-of-requires-2
-say-of-requires-2 c κs = search needs
+say-requires-2 : tie.Need-say-requires-2
+say-requires-2 c κs = search needs
 
 returns-3 : tie.Need-returns-3
 returns-3 c = λ t. absurd t
@@ -53,15 +53,15 @@ pub save-left-spec : {M : Type 1} → statement M
 save-left-spec =
     tie.close
     (tie.spec
-    slice-aggregate-say-of
-    slice-aggregate-say-of-2
-    say-of-requires
+    slice-aggregate-say
+    slice-aggregate-say-2
+    say-requires
     returns
     phase-requires
     has-started-requires
     keep-requires
     returns-2
-    slice-aggregate-say-of-3
-    slice-aggregate-say-of-4
-    say-of-requires-2
+    slice-aggregate-say-3
+    slice-aggregate-say-4
+    say-requires-2
     returns-3)

@@ -19,14 +19,14 @@ returns c =
     let asked = c .before in
     saved-onward _ _ (asked .before .load .ensures) (asked .if1 .taken) (c .save-from .ensures)
 
-slice-aggregate-say-of : tie.Need-slice-aggregate-say-of
-slice-aggregate-say-of c = search needs
+slice-aggregate-say : tie.Need-slice-aggregate-say
+slice-aggregate-say c = search needs
 
-slice-aggregate-say-of-2 : tie.Need-slice-aggregate-say-of-2
-slice-aggregate-say-of-2 c = search needs
+slice-aggregate-say-2 : tie.Need-slice-aggregate-say-2
+slice-aggregate-say-2 c = search needs
 
-say-of-requires : tie.Need-say-of-requires
-say-of-requires c κs = search needs
+say-requires : tie.Need-say-requires
+say-requires c κs = search needs
 
 not-run-requires : tie.Need-not-run-requires
 not-run-requires c κs = search needs
@@ -47,9 +47,9 @@ save-onward-spec =
     load-requires
     save-from-requires
     returns
-    slice-aggregate-say-of
-    slice-aggregate-say-of-2
-    say-of-requires
+    slice-aggregate-say
+    slice-aggregate-say-2
+    say-requires
     not-run-requires
     unsaved-requires
     returns-2)
