@@ -4,6 +4,15 @@ ghost use lib.ListN.{length};
 ghost use Rattle.io.specs.Counts.{Counts};
 use crate::parts;
 
+// Whether what was written to a file is what is stored, and that is there.
+pub(crate) fn same(written: &[u8], name: &[u8], ending: &[u8]) -> bool {
+    let mut bytes = room();
+    let mut stored = room();
+    let n = read(written, b"", &mut bytes);
+    let m = read(name, ending, &mut stored);
+    check::same(&bytes[..n], &stored[..m]) & has(name, ending)
+}
+
 // Whether both files are there: what a case is run on, and what must be written.
 pub(crate) fn both(name: &[u8], given: &[u8], written: &[u8]) -> bool {
     has(name, given) & has(name, written)
@@ -26,18 +35,31 @@ pub(crate) fn read(name: &[u8], ending: &[u8], into: &mut [u8]) -> usize
     n
 }
 
+// Opens it.
+pub(crate) fn open(name: &[u8], ending: &[u8]) -> i32 {
+    let mut path = io::buffer();
+    let n = put_path(&mut path, name, ending);
+    os::open_read(&path[..n])
+}
+
+// Puts its path at the front of a buffer, and answers how many bytes that is.
+pub(crate) fn put_path(path: &mut [u8], name: &[u8], ending: &[u8]) -> usize
+    ensures { λ r. ⌜ Counts r (now (path .exit)) ⌝ }
+{
+    let at = texts::put(path, 0, name);
+    let end = texts::put(path, at, ending);
+    parts::first(end, path)
+}
+
+// Closes what was read and what was written.
+pub(crate) fn close(from: i32, to: i32) {
+    libc::close(from);
+    libc::close(to);
+}
+
 // Whether it is there.
-pub(crate) fn has(name: &[u8], ending: &[u8]) -> bool {
+fn has(name: &[u8], ending: &[u8]) -> bool {
     let fd = open(name, ending);
     libc::close(fd);
     0 <= fd
-}
-
-// Opens it.
-fn open(name: &[u8], ending: &[u8]) -> i32 {
-    let mut path = io::buffer();
-    let at = texts::put(&mut path, 0, name);
-    let end = texts::put(&mut path, at, ending);
-    let n = parts::first(end, &path);
-    os::open_read(&path[..n])
 }

@@ -13,13 +13,6 @@ pub(crate) fn case(name: &[u8]) -> bool {
     shown(&image[..n], &stored[..m]) & files::both(name, b".img", b".txt")
 }
 
-// What loading the image of a case gives: one byte more is read than an image has, so that a longer one is seen to be no image.
-pub(crate) fn start(name: &[u8]) -> Answer {
-    let mut image = [0u8; image::SIZE + 1];
-    let n = files::read(name, b".img", &mut image);
-    load(&image[..n])
-}
-
 // Loads an image at its own stamp.
 fn load(image: &[u8]) -> Answer {
     image::load(State::fresh(0), image, image::last_stamp(image))

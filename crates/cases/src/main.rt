@@ -2,20 +2,15 @@
 // the word that says what is compared: rows:, dumps: (of traces), values: (of dumps), broken: (the values before the 9 of what is no
 // dump), images: (that traces leave), onward: (rows from an image), words: (of images) and table: (on the wall). A case is the name of
 // its files without their endings. A line is written for each case that differs, or has a refusal that is not stored or lacks one
-// that is, and for each group. What is taken in by parts is run in parts of 4,096 bytes and of seven. Behind all groups every word of the
-// programs is run.
+// that is, and for each group. Behind all groups every word of the programs is run.
 mod files;
 mod images;
 mod parts;
-mod rows;
+mod runs;
 mod trial;
 mod values;
-mod walls;
-mod works;
 
-use controller::State;
 use libc::STDOUT_FILENO;
-use running::Task;
 
 // A group under way: the first letter of its word, by which it is run, the argument that has the word, and how many cases were as
 // stored.
@@ -91,14 +86,14 @@ fn letter_of(word: &[u8]) -> u8 {
 // Runs a case, and answers whether it was as stored.
 fn case(letter: u8, name: &[u8]) -> bool {
     match letter {
-        b'r' => works::case(name, b".in", b".out", Task::Rows, State::fresh(0), 0),
-        b'd' => works::case(name, b".in", b".vcd", Task::Waves, State::fresh(0), 0),
-        b'v' => values::case(name, 0),
-        b'b' => values::case(name, 9),
-        b'i' => rows::saved(name),
-        b'o' => rows::onward(name),
+        b'r' => runs::rows(name),
+        b'd' => runs::dump(name),
+        b'v' => runs::sheet(name, 0) & values::case(name, 0),
+        b'b' => runs::sheet(name, 9) & values::case(name, 9),
+        b'i' => runs::image(name),
+        b'o' => runs::onward(name),
         b'w' => images::case(name),
-        b't' => walls::case(name),
+        b't' => runs::table(name),
         _ => false,
     }
 }

@@ -17,16 +17,12 @@ pub(crate) fn end(from: usize, small: bool, n: usize) -> usize
     from + left
 }
 
-// Where it goes on when so many bytes were used: some, and no more than there are. Where none are since a refusal has ended the reading,
-// that is the end.
-pub(crate) fn after(from: usize, used: usize, n: usize, ended: bool) -> usize
+// Where it goes on when so many bytes were used: some, and no more than there are.
+pub(crate) fn after(from: usize, used: usize, n: usize) -> usize
     requires { ⌜ from < n ⌝ }
     ensures { λ r. ⌜ from < r ⌝ }
 {
     if used == 0 {
-        if ended {
-            return n;
-        }
         return NOWHERE;
     }
     if n - from < used {

@@ -1,33 +1,21 @@
-// A dump and its values: NAME.vcd, taken back by `readback`, must give NAME.csv, and so must its sheet. What is no dump must be refused
-// behind those rows.
+// A dump moment by moment: NAME.vcd, taken back by `readback` in parts of 4,096 bytes and of seven, gives the rows of NAME.csv, and the lent
+// buffer holds their values. What is no dump must be refused behind those rows.
 ghost use Prim.Native.Nat.{_<_};
 use crate::files;
 use crate::parts;
-use crate::works;
-use controller::State;
 use readback::Reader;
 use readback::Took;
-use running::Task;
 
 // What the buffer for the values holds before the first call: no moment has it.
 const LENT: u8 = 2;
 
 // Whether a case is as stored, and ends in this refusal: 0, or 9 for what is no dump.
 pub(crate) fn case(name: &[u8], refusal: u8) -> bool {
-    works::case(
-        name,
-        b".vcd",
-        b".csv",
-        Task::Sheet,
-        State::fresh(0),
-        refusal,
-    )
-        & run(name, refusal, false)
-        & run(name, refusal, true)
+    run(name, refusal, false) & run(name, refusal, true)
 }
 
 // The header of what is stored.
-pub(crate) fn header(stored: &[u8]) -> usize {
+fn header(stored: &[u8]) -> usize {
     let mut out = [0u8; 512];
     let n = sheets::rows::put_header(&mut out, 0);
     parts::stored_to(stored, 0, 0, &out, n)
@@ -115,7 +103,7 @@ fn runs(dump: &[u8], refusal: u8, small: bool, stored: &[u8]) -> bool {
             return (took.refusal == refusal) & (at == stored.len());
         }
         reader = took.reader;
-        from = parts::after(from, took.used, dump.len(), false);
+        from = parts::after(from, took.used, dump.len());
     }
     (from == dump.len()) & ends(reader, refusal, stored, first, at, &mut values)
 }

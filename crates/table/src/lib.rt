@@ -274,5 +274,6 @@ fn entry(n: usize) -> u8
     requires { ⌜ n < entries ⌝ }
     ensures { λ r. ⌜ r ≡ entryOf table n ⌝ }
 {
-    NEXT[n / 8][n % 8]
+    let all = all_entries();
+    all[n / 8][n % 8]
 }
