@@ -1,8 +1,8 @@
 // Runs stored cases and compares what is written with what is stored, byte for byte. The arguments are groups of cases, each behind
 // the word that says what is compared: rows:, dumps: (of traces), values: (of dumps), broken: (the values before the 9 of what is no
 // dump), images: (that traces leave), onward: (rows from an image), words: (of images) and table: (on the wall). A case is the name of
-// its files without their endings. A line is written for each case that differs, or has a refusal that is not stored or lacks one
-// that is, and for each group. Behind all groups every word of the programs is run.
+// its files without their endings. A line is written for each case that differs, or whose rows or values have a refusal that
+// is not stored or lack one that is, and for each group. Behind all groups every word of the programs is run.
 mod files;
 mod images;
 mod parts;

@@ -11,7 +11,7 @@ const ONWARD: [u8; 15] = *b"trial/onward.in";
 
 const IMAGE: [u8; 16] = *b"trial/lesson.img";
 
-// All words, and some that there are not.
+// All words, and some that are no use of them.
 pub(crate) fn all() {
     replay(b"trial/lesson.in");
     alone(b"waves", b"trial/lesson.in");
@@ -20,9 +20,17 @@ pub(crate) fn all() {
     handover(b"resume", &IMAGE, &ONWARD);
     waves_onward();
     kept();
-    alone(b"wall", b"/dev/null");
+    no_use();
     wall(b"csv");
     wall(b"page");
+}
+
+// Of these nothing is written.
+fn no_use() {
+    alone(b"rig", b"/dev/null");
+    alone(b"wall", b"/dev/null");
+    wall(b"sheet");
+    handover(b"load", &IMAGE, &ONWARD);
 }
 
 // Where nothing is read, what a lesson is to go on from is no image, or what would be replaced is none, nothing is saved, and what stands there

@@ -107,11 +107,11 @@ pub(crate) fn sync_directory(path: &[u8]) -> bool {
     synced == 0
 }
 
-// Whether there is a directory that a path lies in, and it can be opened.
+// Whether there is a directory that a path lies in. (One that cannot be read may still take a new file.)
 pub(crate) fn has_directory(path: &[u8]) -> bool {
     let fd = open_directory(path);
     if fd < 0 {
-        return false;
+        return os::errno() != libc::ENOENT;
     }
     libc::close(fd);
     true
