@@ -1,7 +1,8 @@
 -- What a computed run opens: `unfolding rules` opens every rule of a step. Only worked cases and computed runs do so.
 -- Assumes nothing.
 use Rattle.common.specs.Lists.{some, eachFrom}
-use Rattle.voter.specs.Voting.{voted, votedBy, ofThree, ofTwo, freshWith, valueOf, isInvalid}
+use Rattle.voter.specs.Voting.{oddOf, majorityOf, byOdd, ofThree, ofTwo, votedBy, voted, freshWith, valueOf, isInvalid}
+use Rattle.voter.specs.Numbers.{channelsAt}
 use Rattle.sequence.specs.Moves.{atAim, nextGears, doorsToGears, doorsHome, moveOf}
 use Rattle.orders.specs.Timing.{grownAge, grown, allGrown, onFor, offFor, switched, wantedOf, directed, offTogether, generalOf, ordersOf}
 use Rattle.monitors.specs.Causes.{causes, causeOf}
@@ -30,7 +31,7 @@ use Rattle.controller.specs.Samples.{agreeing, rest, sees, answers, line
 
 unfoldable pub rules : Unit {0}
 unfolding
-    voted votedBy ofThree ofTwo freshWith valueOf isInvalid
+    channelsAt oddOf majorityOf byOdd ofThree ofTwo votedBy voted freshWith valueOf isInvalid
     atAim nextGears doorsToGears doorsHome moveOf
     grownAge grown allGrown onFor offFor switched wantedOf directed offTogether generalOf ordersOf
     causes causeOf

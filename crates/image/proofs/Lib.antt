@@ -9,6 +9,7 @@ pub mod Faulty
 pub mod Loading
 pub mod Mirrors
 pub mod Keeping
+pub mod Counts
 pub mod Exact
 pub mod RoundTrips
 pub mod Worked

@@ -1,15 +1,15 @@
--- Items and controllers: each gives the other. Of the voter and of doors and gears only the laws that they promise are used.
+-- Items and controllers: each gives the other, but for counts. Of the voter and of doors and gears only the laws that they promise are used.
 -- Assumes nothing.
 use Prim.Native.Nat.{ℕ, zero, suc, _+_, _*_, _-_, _^_}
 use native.Mathlib.Omega.{arith}
-use mathlib.Core.List.{List, [], _∷_, _++_, append-assoc}
+use mathlib.Core.List.{List, [], _∷_, _++_, map, append-assoc}
 use mathlib.Core.Path.{_≡_, refl, sym, subst, _∙_, ap}
 use lib.Dec.{T, leb, lit<}
 use lib.ListN.{length, take, drop, take-append-drop, drop-of-length-le}
 use lib.Seq.{take-at, drop-at, drop-cons, drop-drop}
 use mir.Facts.{and-yes}
 use Rattle.voter.specs.declared.Voter.{Voter}
-use Rattle.voter.specs.Items.{itemsPerSensor, sensorItems, sensorTops, sensorIn}
+use Rattle.voter.specs.Items.{itemsPerSensor, sensorItems, sensorTops, sensorIn, countDropped}
 use Rattle.voter.proofs.Mirrors.{one-of-bit, bit-of-one, items-in-range, sensor-mirror, items-mirror as sensor-items-mirror}
 use Rattle.sequence.proofs.Numbering.{doors-at-number, gears-at-number, number-at-doors, number-at-gears}
 use Rattle.controller.specs.declared.Core.{Core}
@@ -35,12 +35,13 @@ use Rattle.image.specs.Items.{
   coreIn,
   stateIn,
 }
+use Rattle.image.specs.Counts.{countsDropped}
 use Rattle.image.proofs.Ranged.{UpTo, within-length, within-up-to, within-parts}
 use Rattle.image.proofs.Strung.{sensors-items-length}
 
 -- ---- From a controller and back
 
-sensors-back : (voters : List Voter) (rest : List ℕ) → sensorsIn (length voters) (sensorsItems voters ++ rest) ≡ voters
+sensors-back : (voters : List Voter) (rest : List ℕ) → sensorsIn (length voters) (sensorsItems voters ++ rest) ≡ map countDropped voters
 unfolding sensorsItems sensorsIn
 sensors-back [] rest = refl
 sensors-back (v ∷ voters) rest =
@@ -52,14 +53,14 @@ core-back : (c : Core) → coreIn (coreItems c) ≡ c
 unfolding coreItems ordersItems orderItems restItems
 core-back c = simp (one-of-bit, doors-at-number, gears-at-number)
 
--- The items of a controller are of that controller, at the new start stamp.
-pub controller-back : (stamp : ℕ) (s : State) → length (s .voters) ≡ sensorCount → stateIn stamp (itemsOf s) ≡ startedAt stamp s
-unfolding stateIn itemsOf startedAt
+-- The items of a controller are of that controller with its counts at 0, at the new start stamp.
+pub controller-back : (stamp : ℕ) (s : State) → length (s .voters) ≡ sensorCount → stateIn stamp (itemsOf s) ≡ startedAt stamp (countsDropped s)
+unfolding stateIn itemsOf startedAt countsDropped
 controller-back stamp s all =
     let core : List ℕ = coreItems (s .core) in
     let long : length (sensorsItems (s .voters)) ≡ sensorWidth = omega (arith, sensors-items-length (s .voters)) in
-    let voters : sensorsIn sensorCount (sensorsItems (s .voters) ++ core) ≡ s .voters =
-    subst (λ (n : ℕ). sensorsIn n (sensorsItems (s .voters) ++ core) ≡ s .voters) all (sensors-back (s .voters) core)
+    let voters : sensorsIn sensorCount (sensorsItems (s .voters) ++ core) ≡ map countDropped (s .voters) =
+    subst (λ (n : ℕ). sensorsIn n (sensorsItems (s .voters) ++ core) ≡ map countDropped (s .voters)) all (sensors-back (s .voters) core)
     in
     rw (voters, drop-at (sensorsItems (s .voters)) core sensorWidth long, core-back (s .core))
 

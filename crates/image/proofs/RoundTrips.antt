@@ -1,5 +1,5 @@
--- Request K3: saving then loading gives the same controller but for the stamp, and loading then saving the same image but for the
--- stamp. What is allowed saves to an image that is taken, and an image that is taken loads as what is allowed.
+-- Request K3: saving then loading gives the same controller but for the stamp and, until request K6, the counts of request K5; where no count
+-- runs, but for the stamp alone. Loading then saving gives the same image but for the stamp. What is allowed saves to an image that is taken, and an image that is taken loads as what is allowed.
 -- Assumes nothing.
 use Prim.Native.Nat.{ℕ, zero, suc, _-_, _%_, _^_, _≤_, _<_}
 use native.Mathlib.Omega.{arith}
@@ -44,12 +44,14 @@ use Rattle.image.specs.Items.{
 use Rattle.orders.specs.Timing.{oldest}
 use Rattle.image.specs.Rules.{every}
 use Rattle.image.specs.Images.{size, imageOf, loadedAt, loadOf}
+use Rattle.image.specs.Counts.{countsDropped, NoCountRuns}
 use Rattle.image.specs.Conditions.{AgesTo60000, CausesTo13, Allowed, AllBelow, AllBytes, Taken}
 use Rattle.image.proofs.Fours.{items-back, each-below, bytes-back, bytes-of-rest, bytes-length, items-length}
 use Rattle.image.proofs.Ranged.{UpTo, within-length, within-up-to, up-to-within, within-joined}
 use Rattle.image.proofs.Mirrors.{controller-back, core-within as core-items-within, items-mirror}
 use Rattle.image.proofs.Strung.{items-of-length, sensors-length}
 use Rattle.image.proofs.Keeping.{started-keeps}
+use Rattle.image.proofs.Counts.{no-count-no-loss-of-all, dropped-keeps}
 use Rattle.image.proofs.Exact.{in-range-within, taken-is-loaded}
 
 -- ---- The items of an allowed controller are in their ranges
@@ -141,9 +143,9 @@ unfolding imageOf
 image-length s all = omega (arith, bytes-length (itemsOf s), items-of-length s all)
 
 module _ (s : State) (allowed : Allowed s) where
-  -- The image of a controller is of that controller, at the new start stamp.
-  pub image-is-of : (stamp : ℕ) → loadedAt stamp (imageOf s) ≡ startedAt stamp s
-  unfolding loadedAt startedAt
+  -- The image of a controller is of that controller with its counts at 0, at the new start stamp.
+  pub image-is-of : (stamp : ℕ) → loadedAt stamp (imageOf s) ≡ startedAt stamp (countsDropped s)
+  unfolding loadedAt startedAt countsDropped
   image-is-of stamp =
       ap (stateIn stamp) (read-back s allowed) ∙ controller-back stamp (startedAt (s .stamp % 2 ^ 32) s) (allowed .sensors)
 
@@ -158,15 +160,24 @@ module _ (s : State) (allowed : Allowed s) where
                   within-up-to tops (itemsIn (imageOf s))
                   (rw (read-back s allowed) (all-within s allowed (s .stamp % 2 ^ 32) (omega arith)));
             };
-        rules = rw (image-is-of 0) (started-keeps 0 s (allowed .rules));
+        rules = rw (image-is-of 0) (started-keeps 0 (countsDropped s) (dropped-keeps s (allowed .rules)));
       }
 
-  -- Saving then loading gives the same controller but for the stamp.
-  pub saved-then-loaded :
-      (before : State) (stamp : ℕ) → loadOf before (imageOf s) stamp ≡ record { refusal = 0; state = startedAt stamp s }
-  saved-then-loaded before stamp =
+  -- Saving then loading gives the same controller but for the stamp and the counts, which are 0 ..
+  pub saved-then-loaded-but-for-counts :
+      (before : State) (stamp : ℕ) →
+      loadOf before (imageOf s) stamp ≡ record { refusal = 0; state = startedAt stamp (countsDropped s) }
+  saved-then-loaded-but-for-counts before stamp =
       taken-is-loaded (imageOf s) allowed-is-taken before stamp ∙
       ap (λ (loaded : State). let answer : Answer = record { refusal = 0; state = loaded } in answer) (image-is-of stamp)
+
+  -- .. and where no count runs, but for the stamp.
+  pub saved-then-loaded :
+      NoCountRuns s →
+      (before : State) (stamp : ℕ) →
+      loadOf before (imageOf s) stamp ≡ record { refusal = 0; state = startedAt stamp s }
+  saved-then-loaded none before stamp =
+      rw (no-count-no-loss-of-all s none) at (saved-then-loaded-but-for-counts before stamp)
 
 -- ---- Loading, then saving
 

@@ -11,6 +11,7 @@ pub mod Samples
 pub mod Ages
 pub mod Starts
 pub mod Latched
+pub mod Bounces
 pub mod Images
 pub mod Wall
 pub mod Ground

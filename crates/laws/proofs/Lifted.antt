@@ -64,7 +64,7 @@ step-keeps P s stamp bytes = steps-keep (λ (t other : State). P t) s s stamp st
 -- ---- What is allowed stays so
 
 -- A vote leaves as many sensors as there were.
-votes-length : (bytes : List ℕ) (voters : List Voter) → length (allVoted bytes voters) ≡ length voters
+pub votes-length : (bytes : List ℕ) (voters : List Voter) → length (allVoted bytes voters) ≡ length voters
 unfolding allVoted
 votes-length bytes voters =
     sym (ap length (upTo-all (votesAt bytes) 0 (length voters) voters (le-refl (length voters)))) ∙

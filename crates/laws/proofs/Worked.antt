@@ -3,8 +3,13 @@
 use mathlib.Core.Path.{refl}
 use Rattle.common.specs.Case.{AllAsWanted}
 use Rattle.voter.specs.Numbers.{numberOf}
-use Rattle.voter.specs.Cases.{voterCases, shown, afterP1}
+use Rattle.voter.specs.Cases.{shown, gives, twice, afterP1, voterCases}
+use Rattle.voter.specs.Items.{sensorItems, sensorIn}
+use Rattle.voter.specs.Runs.{heardAll}
 use Rattle.laws.specs.Cases.{
+  switchAfter,
+  twiceThenRefused,
+  bounceCases,
   shownAnswer,
   answeredOverTheRound,
   answeredAfter,
@@ -20,12 +25,14 @@ use Rattle.laws.specs.Cases.{
   stepCases,
   allCases,
 }
+use Rattle.controller.specs.Samples.{after}
 use Rattle.controller.proofs.Computing.{rules}
 
 pub p1-to-p12 : AllAsWanted allCases
 unfolding
     rules
-    voterCases shown afterP1 numberOf
+    heardAll sensorItems sensorIn numberOf voterCases shown twice afterP1 gives
+    after switchAfter twiceThenRefused bounceCases
     shownAnswer answeredOverTheRound answeredAfter nothingSeen stepFrom isOnAfter opensAtGeneral startsAtOpposite
     generalAtOthers causeAtOpen causeAtHandle doorsDown stepCases allCases
 p1-to-p12 = refl

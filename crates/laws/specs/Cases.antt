@@ -1,12 +1,12 @@
--- Document 01, "Both sides of each threshold": P1 to P12 as one list. P1 to P3 are the voter's; P4 to P12 are worked over whole
--- steps, of the controller or of its core.
+-- Document 01, "Both sides of each threshold", P1 to P3 as request K5 changes them: P1 to P12 as one list. P1 to P3 are the voter's, and
+-- then P1 with refused samples between; P4 to P12 are worked over whole steps, of the controller or of its core.
 -- Assumes nothing.
 use mathlib.Core.Bool.{Bool, true, false}
 use mathlib.Core.List.{List, [], _∷_, _++_}
 use Prim.Native.Nat.{ℕ, _-_}
 use Rattle.common.specs.Bits.{bit}
 use Rattle.common.specs.Case.{Case}
-use Rattle.voter.specs.Cases.{voterCases}
+use Rattle.voter.specs.Cases.{shown, voterCases}
 use Rattle.sequence.specs.declared.Doors.the-variants.{Closed, Opening, Open, Closing}
 use Rattle.sequence.specs.declared.Gears.the-variants.{Retracted, Extending, Extended, Retracting}
 use Rattle.sequence.specs.declared.Aim.{Aim}
@@ -21,10 +21,33 @@ use Rattle.monitors.specs.declared.Three.{Three}
 use Rattle.monitors.specs.declared.Sight.{Sight}
 use Rattle.controller.specs.declared.Core.{Core}
 use Rattle.controller.specs.declared.Answer.{Answer}
+use Rattle.controller.specs.Votes.{analogicalSwitch}
 use Rattle.controller.specs.Start.{freshOf, freshOrders}
 use Rattle.controller.specs.Stages.{elapsedOf, coreStep}
 use Rattle.controller.specs.Steps.{stepOf}
-use Rattle.controller.specs.Samples.{sees}
+use Rattle.controller.specs.Samples.{rest, sees, Row, after}
+use Rattle.laws.specs.Bounces.{sensorAt}
+
+-- ---- P1 with refused samples between
+
+-- A sample in which the channels of the switch say this; all else is at rest.
+abbrev pub switchSays : ℕ → ℕ → ℕ → List ℕ
+switchSays one two three = 1 ∷ 1 ∷ 1 ∷ one ∷ two ∷ three ∷ rest 1 0 1 0 0
+
+-- The switch after such samples from a fresh start at stamp 0, shown as the voter's cases show it.
+unfoldable pub switchAfter : List Row → List ℕ
+switchAfter rows = shown (sensorAt analogicalSwitch (after (freshOf 0) rows))
+
+-- Channel 3 is the odd one at 100 and 200 ms; then a sample at 200 ms again, which gets 3.
+unfoldable pub twiceThenRefused : List ℕ → List Row
+twiceThenRefused refused = (100, switchSays 0 0 1) ∷ (200, switchSays 0 0 1) ∷ (200, refused) ∷ []
+
+unfoldable pub bounceCases : List Case
+bounceCases =
+    record { name = "P1 a refused sample does not add"; gives = switchAfter (twiceThenRefused (switchSays 0 0 1)); wanted = 0 ∷ 0 ∷ 3 ∷ 2 ∷ [] } ∷
+    record { name = "P1 a refused sample does not reset"; gives = switchAfter (twiceThenRefused (switchSays 0 0 0)); wanted = 0 ∷ 0 ∷ 3 ∷ 2 ∷ [] } ∷
+    record { name = "P1 the third accepted one strikes"; gives = switchAfter (twiceThenRefused (switchSays 0 0 0) ++ (300, switchSays 0 0 1) ∷ []); wanted = 0 ∷ 3 ∷ 0 ∷ 0 ∷ [] } ∷
+    []
 
 -- ---- A step of the controller
 
@@ -140,4 +163,4 @@ stepCases =
 
 -- P1 to P12.
 unfoldable pub allCases : List Case
-allCases = voterCases ++ stepCases
+allCases = voterCases ++ bounceCases ++ stepCases

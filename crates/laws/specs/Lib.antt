@@ -3,6 +3,7 @@ pub mod Reached
 pub mod GroundModel
 pub mod Elapsed
 pub mod Times
+pub mod Bounces
 pub mod Ages
 pub mod Starts
 pub mod Latched

@@ -1,4 +1,10 @@
+pub mod Counts
+pub mod Outcomes
 pub mod Laws
+pub mod Odd
+pub mod Bounces
+pub mod Splits
+pub mod InARow
 pub mod Numbering
 pub mod Mirrors
 pub mod Once

@@ -1,4 +1,4 @@
--- A sensor and its items (request K3): each gives the other. The layers above cite these names and never open the rule.
+-- A sensor and its items (request K3): each gives the other, but for the count. The layers above cite these names and never open the rule.
 -- Assumes nothing.
 use Prim.Native.Nat.{ℕ, zero, suc, _≤_, _<_}
 use native.Mathlib.Omega.{arith}
@@ -9,9 +9,9 @@ use lib.Dec.{lit≤, lit<}
 use lib.ListN.{getD}
 use mir.Val.{boolByte}
 use Rattle.common.specs.Bits.{bit, isOne}
-use Rattle.voter.specs.Voting.{sensor, valueOf}
+use Rattle.voter.specs.Voting.{uncounted, valueOf, isInvalid}
 use Rattle.voter.specs.Numbers.{numberOf}
-use Rattle.voter.specs.Items.{itemsPerSensor, sensorItems, sensorTops, SensorInRange, sensorIn}
+use Rattle.voter.specs.Items.{itemsPerSensor, sensorItems, sensorTops, SensorInRange, sensorIn, countDropped, NoCountRunsAt}
 use Rattle.voter.specs.declared.Voter.{Voter}
 use Rattle.voter.proofs.Numbering.{at-number, number-at, number-to-4}
 
@@ -47,12 +47,26 @@ items-in-range v = record { long = refl; ranges = each }
     each (suc zero) h = bit-to-1 (valueOf v)
     each (suc (suc k)) h = absurd (omega arith)
 
--- The sensor of the items of a sensor is that sensor ..
-pub sensor-mirror : (v : Voter) → sensorIn (sensorItems v) ≡ v
+-- The sensor of the items of a sensor is that sensor with its count dropped, ..
+pub sensor-mirror : (v : Voter) → sensorIn (sensorItems v) ≡ countDropped v
 unfolding sensorIn sensorItems numberOf valueOf
-sensor-mirror v = ap₂ sensor (at-number (v .channels)) (one-of-bit (v .held))
+sensor-mirror v = ap₂ uncounted (at-number (v .channels)) (one-of-bit (v .held))
 
--- .. and the items of the sensor of items in range are those items.
+-- .. which is that sensor where no count runs, ..
+pub no-count-no-loss : (v : Voter) → NoCountRunsAt v → countDropped v ≡ v
+no-count-no-loss v none = rw (none .odd, none .count)
+
+-- .. and in any case is invalid or not as it was ..
+pub dropped-is-invalid-too : (v : Voter) → isInvalid (countDropped v) ≡ isInvalid v
+unfolding isInvalid
+dropped-is-invalid-too v = refl
+
+-- .. and has the same items.
+pub dropped-has-the-items : (v : Voter) → sensorItems (countDropped v) ≡ sensorItems v
+unfolding sensorItems numberOf valueOf
+dropped-has-the-items v = refl
+
+-- And the items of the sensor of items in range are those items.
 pub items-mirror : (items : List ℕ) → SensorInRange items → sensorItems (sensorIn items) ≡ items
 unfolding sensorIn sensorItems numberOf valueOf
 items-mirror [] h = absurd (omega (arith, h .long))

@@ -2,7 +2,7 @@
 -- Assumes nothing.
 use Prim.Native.Nat.{ℕ, zero, suc, _≤_}
 use native.Mathlib.Omega.{arith}
-use mathlib.Core.Path.{_≡_, refl}
+use mathlib.Core.Path.{_≡_, refl, sym, ap, _∙_}
 use lib.Dec.{lit≤}
 use Rattle.voter.specs.Numbers.{channelsNumber, lastNumber, numberOf, channelsAt}
 use Rattle.voter.specs.declared.Channels.{Channels}
@@ -39,3 +39,12 @@ number-at (suc (suc (suc (suc (suc n))))) h = absurd (omega arith)
 pub number-to-4 : (v : Voter) → numberOf v ≤ lastNumber
 unfolding numberOf
 number-to-4 v = to-4 (v .channels)
+
+-- All channels are valid exactly where the number is 0.
+pub all-has-0 : (v : Voter) → v .channels ≡ All → numberOf v ≡ 0
+unfolding numberOf
+all-has-0 v all = ap channelsNumber all
+
+pub all-by-number : (v : Voter) → numberOf v ≡ 0 → v .channels ≡ All
+unfolding numberOf channelsAt
+all-by-number v e = sym (at-number (v .channels)) ∙ ap channelsAt e

@@ -1,25 +1,52 @@
--- Document 01, "Both sides of each threshold": P1 to P3, worked over the rule.
+-- Document 01, "Both sides of each threshold": P1 to P3 as request K5 changes them, and what stands beside them in the request, worked
+-- over the rule.
 -- Assumes nothing.
 use Prim.Native.Nat.{ℕ}
-use mathlib.Core.Bool.{Bool, true, false}
-use mathlib.Core.List.{List, [], _∷_}
+use Prim.Native.String.{String}
+use mathlib.Core.Bool.{false}
+use mathlib.Core.List.{List, [], _∷_, _++_}
 use Rattle.common.specs.Bits.{bit}
 use Rattle.common.specs.Case.{Case}
-use Rattle.voter.specs.Voting.{voted, freshWith, valueOf}
+use Rattle.voter.specs.Voting.{freshWith, valueOf}
 use Rattle.voter.specs.Numbers.{numberOf}
+use Rattle.voter.specs.Items.{sensorItems, sensorIn}
+use Rattle.voter.specs.Runs.{Reading, says, heardAll}
 use Rattle.voter.specs.declared.Voter.{Voter}
 
--- A sensor shown by its value and its channels' number.
+-- A sensor shown by its value, its channels' number, its odd channel and its count.
 unfoldable pub shown : Voter → List ℕ
-shown v = bit (valueOf v) ∷ numberOf v ∷ []
+shown v = bit (valueOf v) ∷ numberOf v ∷ v .odd ∷ v .count ∷ []
 
--- A fresh vote 1,1,0, whatever was held.
-unfoldable pub afterP1 : Bool → Voter
-afterP1 held = voted (freshWith held) true true false
+-- A fresh sensor that held 0, after these readings.
+unfoldable pub gives : String → List Reading → List ℕ → Case
+gives name readings wanted = record { name = name; gives = shown (heardAll (freshWith false) readings); wanted = wanted }
+
+-- P1: 1,1,0 twice, and three times.
+unfoldable pub twice : List Reading
+twice = says 1 1 0 ∷ says 1 1 0 ∷ []
+
+unfoldable pub afterP1 : List Reading
+afterP1 = twice ++ says 1 1 0 ∷ []
 
 unfoldable pub voterCases : List Case
 voterCases =
-    record { name = "P1 fresh vote 1,1,0: value 1, channel 3 struck"; gives = shown (afterP1 false); wanted = 1 ∷ 3 ∷ [] } ∷
-    record { name = "P2 then 1,0 on the others: invalid, 1 kept"; gives = shown (voted (afterP1 false) true false true); wanted = 1 ∷ 4 ∷ [] } ∷
-    record { name = "P3 after P1, 1,1,1: channel 3 stays struck"; gives = shown (voted (afterP1 false) true true true); wanted = 1 ∷ 3 ∷ [] } ∷
+    gives "P1 fresh vote 1,1,0: value 1, all valid" (says 1 1 0 ∷ []) (1 ∷ 0 ∷ 3 ∷ 1 ∷ []) ∷
+    gives "P1 twice: value 1, all valid" twice (1 ∷ 0 ∷ 3 ∷ 2 ∷ []) ∷
+    gives "P1 three times: value 1, channel 3 struck" afterP1 (1 ∷ 3 ∷ 0 ∷ 0 ∷ []) ∷
+    gives "P2 then 1,0 on the others: 1 kept" (afterP1 ++ says 1 0 1 ∷ []) (1 ∷ 3 ∷ 0 ∷ 1 ∷ []) ∷
+    gives "P2 twice: 1 kept, valid" (afterP1 ++ says 1 0 1 ∷ says 1 0 0 ∷ []) (1 ∷ 3 ∷ 0 ∷ 2 ∷ []) ∷
+    gives "P2 three times: invalid, 1 kept" (afterP1 ++ says 1 0 1 ∷ says 1 0 0 ∷ says 0 1 0 ∷ []) (1 ∷ 4 ∷ 0 ∷ 0 ∷ []) ∷
+    gives "P3 after P1, 1,1,1: channel 3 stays struck" (afterP1 ++ says 1 1 1 ∷ []) (1 ∷ 3 ∷ 0 ∷ 0 ∷ []) ∷
+    -- beside them: three valid
+    gives "agreement sets the count to 0" (twice ++ says 1 1 1 ∷ []) (1 ∷ 0 ∷ 0 ∷ 0 ∷ []) ∷
+    gives "after agreement it starts again" (twice ++ says 1 1 1 ∷ says 1 1 0 ∷ []) (1 ∷ 0 ∷ 3 ∷ 1 ∷ []) ∷
+    gives "another odd channel starts again at 1" (twice ++ says 1 0 1 ∷ []) (1 ∷ 0 ∷ 2 ∷ 1 ∷ []) ∷
+    gives "and so does the first one after it" (twice ++ says 1 0 1 ∷ says 1 1 0 ∷ []) (1 ∷ 0 ∷ 3 ∷ 1 ∷ []) ∷
+    gives "the value is the majority's at each" (says 1 1 0 ∷ says 0 0 1 ∷ []) (0 ∷ 0 ∷ 3 ∷ 2 ∷ []) ∷
+    gives "and with the strike" (twice ++ says 0 0 1 ∷ []) (0 ∷ 3 ∷ 0 ∷ 0 ∷ []) ∷
+    -- two valid
+    gives "agreement of two sets the count to 0" (afterP1 ++ says 1 0 0 ∷ says 1 0 0 ∷ says 0 0 1 ∷ []) (0 ∷ 3 ∷ 0 ∷ 0 ∷ []) ∷
+    gives "after it they start again" (afterP1 ++ says 1 0 0 ∷ says 1 0 0 ∷ says 0 0 1 ∷ says 1 0 1 ∷ []) (0 ∷ 3 ∷ 0 ∷ 1 ∷ []) ∷
+    -- until request K6 an image drops the count
+    record { name = "a sensor back from its items: the count is 0"; gives = shown (sensorIn (sensorItems (heardAll (freshWith false) twice))); wanted = 1 ∷ 0 ∷ 0 ∷ 0 ∷ [] } ∷
     []

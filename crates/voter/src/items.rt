@@ -15,7 +15,7 @@ impl Voter {
         number_of(channels)
     }
 
-    // Its items.
+    // Its items. The odd channel and the count are not among them.
     pub fn items(self) -> [u32; ITEMS]
         ensures { λ r. ⌜ r ≡ sensorItems self ⌝ }
     {
@@ -29,14 +29,11 @@ impl Voter {
         [4, 1]
     }
 
-    // The sensor that items are of.
+    // The sensor that items are of. No count runs: until request K6 an image has no place for it.
     pub fn from_items(items: [u32; ITEMS]) -> Self
         ensures { λ r. ⌜ r ≡ sensorIn items ⌝ }
     {
-        Voter {
-            channels: channels_at(items[0]),
-            held: items[1] == 1,
-        }
+        Voter::uncounted(channels_at(items[0]), items[1] == 1)
     }
 }
 
@@ -54,7 +51,7 @@ fn number_of(channels: Channels) -> u32
 }
 
 // The channels that have a number.
-fn channels_at(number: u32) -> Channels
+pub(crate) fn channels_at(number: u32) -> Channels
     ensures { λ r. ⌜ r ≡ channelsAt number ⌝ }
 {
     if number == 0 {

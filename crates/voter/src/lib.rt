@@ -1,13 +1,18 @@
-// One sensor of the rig with its three channels: which of them still count, and the value held.
-// The rule is specs/Voting.antt (document 01, "Voting"), and what a sensor is in an image is specs/Items.antt (request K3). The
-// layers above lean on what stands here as a promise, and on nothing else of a voter.
+// One sensor of the rig with its three channels: which of them still count, the value held, and how often in a row a channel was odd.
+// The rule is specs/Voting.antt (document 01, "Voting"; request K5), and what a sensor is in an image is specs/Items.antt (request K3).
+// The layers above lean on what stands here as a promise, and on nothing else of a voter.
 ghost use mathlib.Core.Path.{_≡_};
-ghost use Rattle.voter.specs.Voting.{ofThree, ofTwo, voted, freshWith, valueOf, isInvalid};
+ghost use Rattle.voter.specs.Voting.{uncounted, voted, freshWith, valueOf, isInvalid};
 
 mod items;
+mod three;
+mod two;
 
 // A sensor is so many items of an image (`itemsPerSensor` of specs/Items.antt).
 pub const ITEMS: usize = 2;
+
+// This many samples in a row are too many (`third` of specs/Voting.antt).
+const THIRD: u8 = 3;
 
 // Which channels still count; `Nothing` for an invalid sensor.
 pub enum Channels {
@@ -18,10 +23,13 @@ pub enum Channels {
     Nothing,
 }
 
-// A sensor: its channels that still count, and the value held.
+// A sensor: its channels that still count, the value held, the odd channel (1 to 3, or 0) and the count, 0 to 2: so many samples in
+// a row had that channel as the odd one or, with two valid, had the two differ. Any byte may stand in the last two.
 pub struct Voter {
     pub channels: Channels,
     pub held: bool,
+    pub odd: u8,
+    pub count: u8,
 }
 
 impl Voter {
@@ -29,10 +37,7 @@ impl Voter {
     pub fn fresh(held: bool) -> Self
         ensures { λ r. ⌜ r ≡ freshWith held ⌝ }
     {
-        Voter {
-            channels: Channels::All,
-            held,
-        }
+        Voter::uncounted(Channels::All, held)
     }
 
     // One vote over the three channels.
@@ -41,10 +46,10 @@ impl Voter {
     {
         let channels = self.channels;
         match channels {
-            Channels::All => of_three(one, two, three),
-            Channels::Without1 => of_two(self, two, three),
-            Channels::Without2 => of_two(self, one, three),
-            Channels::Without3 => of_two(self, one, two),
+            Channels::All => three::vote(self, one, two, three),
+            Channels::Without1 => two::vote(self, two, three),
+            Channels::Without2 => two::vote(self, one, three),
+            Channels::Without3 => two::vote(self, one, two),
             Channels::Nothing => self,
         }
     }
@@ -69,49 +74,16 @@ impl Voter {
             Channels::Nothing => true,
         }
     }
-}
 
-// Three valid channels: the odd one is struck, and the value is that of the two equal ones.
-fn of_three(one: bool, two: bool, three: bool) -> Voter
-    ensures { λ r. ⌜ r ≡ ofThree one two three ⌝ }
-{
-    if one == two {
-        if two == three {
-            return Voter {
-                channels: Channels::All,
-                held: one,
-            };
-        }
-        return Voter {
-            channels: Channels::Without3,
-            held: one,
-        };
-    }
-    if two == three {
-        return Voter {
-            channels: Channels::Without1,
-            held: two,
-        };
-    }
-    Voter {
-        channels: Channels::Without2,
-        held: three,
-    }
-}
-
-// Two valid channels: their value where they agree, else invalid with the last value kept.
-fn of_two(v: Voter, one: bool, two: bool) -> Voter
-    ensures { λ r. ⌜ r ≡ ofTwo v one two ⌝ }
-{
-    if one == two {
-        let channels = v.channels;
-        return Voter {
+    // A sensor with these channels that still count, which holds this value, and no count runs.
+    pub(crate) fn uncounted(channels: Channels, held: bool) -> Self
+        ensures { λ r. ⌜ r ≡ uncounted channels held ⌝ }
+    {
+        Voter {
             channels,
-            held: one,
-        };
-    }
-    Voter {
-        channels: Channels::Nothing,
-        held: v.held,
+            held,
+            odd: 0,
+            count: 0,
+        }
     }
 }

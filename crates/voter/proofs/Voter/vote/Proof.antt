@@ -8,45 +8,45 @@ use Rattle.voter.proofs.Voter.vote.Tie as tie
 enum-told : tie.Need-enum-told
 enum-told c = search needs
 
-of-three-requires : tie.Need-of-three-requires
-of-three-requires c κs = search needs
+vote-requires : tie.Need-vote-requires
+vote-requires c κs = search needs
 
 enum-told-2 : tie.Need-enum-told-2
 enum-told-2 c = search needs
 
-of-two-requires : tie.Need-of-two-requires
-of-two-requires c κs = search needs
+vote-requires-2 : tie.Need-vote-requires-2
+vote-requires-2 c κs = search needs
 
 enum-told-3 : tie.Need-enum-told-3
 enum-told-3 c = search needs
 
-of-two-requires-2 : tie.Need-of-two-requires-2
-of-two-requires-2 c κs = search needs
+vote-requires-3 : tie.Need-vote-requires-3
+vote-requires-3 c κs = search needs
 
 enum-told-4 : tie.Need-enum-told-4
 enum-told-4 c = search needs
 
-of-two-requires-3 : tie.Need-of-two-requires-3
-of-two-requires-3 c κs = search needs
+vote-requires-4 : tie.Need-vote-requires-4
+vote-requires-4 c κs = search needs
 
 enum-told-5 : tie.Need-enum-told-5
 enum-told-5 c = search needs
 
 returns : tie.Need-returns
 unfolding voted votedBy
-returns c = simp (c .of-three .ensures, c .before .enum-told .given .1)
+returns c = simp (c .vote .ensures, c .before .enum-told .given .1)
 
 returns-2 : tie.Need-returns-2
 unfolding voted votedBy
-returns-2 c = simp (c .of-two .ensures, c .before .enum-told2 .given .1)
+returns-2 c = simp (c .vote2 .ensures, c .before .enum-told2 .given .1)
 
 returns-3 : tie.Need-returns-3
 unfolding voted votedBy
-returns-3 c = simp (c .of-two2 .ensures, c .before .enum-told3 .given .1)
+returns-3 c = simp (c .vote3 .ensures, c .before .enum-told3 .given .1)
 
 returns-4 : tie.Need-returns-4
 unfolding voted votedBy
-returns-4 c = simp (c .of-two3 .ensures, c .before .enum-told4 .given .1)
+returns-4 c = simp (c .vote4 .ensures, c .before .enum-told4 .given .1)
 
 returns-5 : tie.Need-returns-5
 unfolding voted votedBy
@@ -57,13 +57,13 @@ vote-spec =
     tie.close
     (tie.spec
     enum-told
-    of-three-requires
+    vote-requires
     enum-told-2
-    of-two-requires
+    vote-requires-2
     enum-told-3
-    of-two-requires-2
+    vote-requires-3
     enum-told-4
-    of-two-requires-3
+    vote-requires-4
     enum-told-5
     returns
     returns-2

@@ -1,0 +1,115 @@
+-- Request K5 over the controller's run: a sensor hears the accepted samples, one after the other, and nothing of the refused ones. So a
+-- channel is struck exactly if in three accepted samples in a row it was the odd one while all were valid.
+-- Assumes nothing.
+use Prim.Native.Nat.{ℕ, zero, suc, _+_, _≤_, _<_}
+use native.Mathlib.Omega.{arith}
+use mathlib.Core.Bool.{Bool, true, false, cond, _&&_}
+use mathlib.Core.List.{List, [], _∷_, map}
+use mathlib.Core.Logic.{_↔_}
+use mathlib.Core.Path.{_≡_, refl, sym, ap, subst⁻¹, _∙_}
+use lib.Dec.{T, eqb, eqb→eq}
+use mir.Facts.{and-yes}
+use lib.ListN.{length, getD}
+use Rattle.common.specs.Lists.{eachFrom}
+use Rattle.voter.specs.declared.Voter.{Voter}
+use Rattle.voter.specs.declared.Channels.the-variants.{All}
+use Rattle.voter.specs.Voting.{freshWith, isInvalid}
+use Rattle.voter.specs.Runs.{Reading, heard, heardAll, isStruck, ThreeInARow}
+use Rattle.voter.specs.Numbers.{numberOf}
+use Rattle.voter.proofs.Numbering.{all-by-number}
+use Rattle.voter.proofs.InARow.{struck-exactly}
+use Rattle.controller.specs.declared.State.{State}
+use Rattle.controller.specs.Votes.{votesAt, allVoted}
+use Rattle.controller.specs.Start.{freshVoters, freshOf}
+use Rattle.controller.specs.Stages.{accepted}
+use Rattle.controller.specs.Steps.{refusalOf, stepAt, stepOf}
+use Rattle.controller.specs.Samples.{Row, after}
+use Rattle.image.specs.Rules.{every}
+use Rattle.laws.specs.Times.{next}
+use Rattle.laws.specs.Bounces.{sensorAt, readingAt, readingsAt}
+use Rattle.laws.proofs.Stages.{stages}
+use Rattle.laws.proofs.Lifted.{votes-length, step-keeps}
+
+-- ---- A sample
+
+each-at : (f : ℕ → Voter → Voter) (k i : ℕ) (vs : List Voter) (d : Voter) → i < length vs → getD (eachFrom f k vs) i d ≡ f (k + i) (getD vs i d)
+unfolding eachFrom
+each-at f k i [] d h = absurd (omega arith)
+each-at f k zero (v ∷ vs) d h = ap (λ (n : ℕ). f n v) (omega arith)
+each-at f k (suc i) (v ∷ vs) d h =
+    let place : suc k + i ≡ k + suc i = omega arith in
+    each-at f (suc k) i vs d (omega arith) ∙ ap (λ (n : ℕ). f n (getD vs i d)) place
+
+module _ (i : ℕ) (s : State) (within : i < length (s .voters)) where
+  -- An accepted sample is heard.
+  accepted-is-heard : (stamp : ℕ) (bytes : List ℕ) → sensorAt i (accepted s stamp bytes) ≡ heard (sensorAt i s) (readingAt i bytes)
+  unfolding stages allVoted
+  accepted-is-heard stamp bytes = each-at (votesAt bytes) 0 i (s .voters) (freshWith false) within ∙ ap (λ (n : ℕ). votesAt bytes n (sensorAt i s)) (omega arith)
+
+  -- A refused one is not, and there are as many sensors behind either.
+  one-more : (r : Row) (more : List Reading)
+      → heardAll (sensorAt i (next s r)) more
+      ≡ heardAll (sensorAt i s) (cond (eqb (stepOf s (r .0) (r .1) .refusal) 0) (readingAt i (r .1) ∷ more) more)
+  unfolding stepAt heardAll
+  one-more r more = by (eqb (refusalOf s (r .0) (r .1)) 0)
+    where
+      by : (isTaken : Bool)
+          → heardAll (sensorAt i (cond isTaken (accepted s (r .0) (r .1)) s)) more
+          ≡ heardAll (sensorAt i s) (cond isTaken (readingAt i (r .1) ∷ more) more)
+      by true = ap (λ (v : Voter). heardAll v more) (accepted-is-heard (r .0) (r .1))
+      by false = refl
+
+  within-next : (r : Row) → i < length (next s r .voters)
+  unfolding stages
+  within-next r =
+      step-keeps (λ (t : State). i < length (t .voters)) s (r .0) (r .1) (omega (arith, votes-length (r .1) (s .voters))) within
+
+-- ---- A whole run
+
+-- From any state, over any samples, a sensor is what the accepted ones make of it.
+pub hears-the-accepted : (i : ℕ) (s : State) → i < length (s .voters) → (rows : List Row)
+    → sensorAt i (after s rows) ≡ heardAll (sensorAt i s) (readingsAt i s rows)
+unfolding after readingsAt heardAll
+hears-the-accepted i s within [] = refl
+hears-the-accepted i s within (r ∷ rs) =
+    hears-the-accepted i (next s r) (within-next i s within r) rs ∙ one-more i s within r (readingsAt i (next s r) rs)
+
+-- So a channel is struck exactly by three in a row, from any state in which all channels of its sensor are valid and its count is 0, while it
+-- is not invalid.
+pub struck-exactly-over-a-run : (i : ℕ) (s : State) → i < length (s .voters) → sensorAt i s .channels ≡ All → sensorAt i s .count ≡ 0
+    → (k : ℕ) → 1 ≤ k → (rows : List Row)
+    → isInvalid (sensorAt i (after s rows)) ≡ false
+    → T (isStruck k (sensorAt i (after s rows))) ↔ ThreeInARow k (sensorAt i s) (readingsAt i s rows)
+struck-exactly-over-a-run i s within all none k channel rows valid =
+    let is = hears-the-accepted i s within rows in
+    subst⁻¹ (λ (v : Voter). T (isStruck k v) ↔ ThreeInARow k (sensorAt i s) (readingsAt i s rows)) is
+    (struck-exactly (sensorAt i s) all none k channel (readingsAt i s rows) (ap isInvalid (sym is) ∙ valid))
+
+-- ---- A fresh start is such a state, for each of the eighteen sensors.
+
+-- All channels are valid, and the count is 0.
+abbrev isQuiet : Voter → Bool
+isQuiet v = eqb (numberOf v) 0 && eqb (v .count) 0
+
+quiet-at : (vs : List Voter) → T (every (map isQuiet vs)) → (i : ℕ) → i < length vs → (d : Voter) → T (isQuiet (getD vs i d))
+quiet-at [] each i less d = absurd (omega arith)
+quiet-at (v ∷ vs) each zero less d = and-yes (isQuiet v) _ each .0
+quiet-at (v ∷ vs) each (suc i) less d = quiet-at vs (and-yes (isQuiet v) _ each .1) i (omega arith) d
+
+module _ (stamp i : ℕ) (within : i < 18) where
+  sensors : i < length (freshOf stamp .voters)
+  unfolding freshOf freshVoters
+  sensors = within
+
+  quiet : T (eqb (numberOf (sensorAt i (freshOf stamp))) 0) × T (eqb (sensorAt i (freshOf stamp) .count) 0)
+  unfolding freshOf freshVoters freshWith numberOf
+  quiet =
+      and-yes (eqb (numberOf (sensorAt i (freshOf stamp))) 0) (eqb (sensorAt i (freshOf stamp) .count) 0)
+      (quiet-at (freshOf stamp .voters) tt i sensors (freshWith false))
+
+  pub struck-exactly-from-a-fresh-start : (k : ℕ) → 1 ≤ k → (rows : List Row)
+      → isInvalid (sensorAt i (after (freshOf stamp) rows)) ≡ false
+      → T (isStruck k (sensorAt i (after (freshOf stamp) rows)))
+      ↔ ThreeInARow k (sensorAt i (freshOf stamp)) (readingsAt i (freshOf stamp) rows)
+  struck-exactly-from-a-fresh-start =
+      struck-exactly-over-a-run i (freshOf stamp) sensors (all-by-number (sensorAt i (freshOf stamp)) (eqb→eq _ 0 (quiet .0))) (eqb→eq _ 0 (quiet .1))

@@ -1,0 +1,29 @@
+-- Request K5 over the controller's run, "the third accepted sample in a row": what a sensor hears. A refused sample neither adds nor resets.
+-- Assumes nothing.
+use mathlib.Core.Bool.{Bool, false, cond}
+use mathlib.Core.List.{List, [], _∷_}
+use Prim.Native.Nat.{ℕ, _+_, _*_}
+use lib.Dec.{eqb}
+use lib.ListN.{getD}
+use Rattle.voter.specs.declared.Voter.{Voter}
+use Rattle.voter.specs.Voting.{freshWith}
+use Rattle.voter.specs.Runs.{Reading}
+use Rattle.controller.specs.declared.State.{State}
+use Rattle.controller.specs.Votes.{channel}
+use Rattle.controller.specs.Steps.{stepOf}
+use Rattle.controller.specs.Samples.{Row}
+use Rattle.laws.specs.Times.{next}
+
+-- Sensor i of a controller, counted from 0 in the sample's order.
+abbrev pub sensorAt : ℕ → State → Voter
+sensorAt i s = getD (s .voters) i (freshWith false)
+
+-- What its three channels say in a sample.
+abbrev pub readingAt : ℕ → List ℕ → Reading
+readingAt i bytes = (channel bytes (3 * i), channel bytes (3 * i + 1), channel bytes (3 * i + 2))
+
+-- What they say in the accepted ones of a list of samples.
+unfoldable pub readingsAt : ℕ → State → List Row → List Reading
+readingsAt i s [] = []
+readingsAt i s (r ∷ rs) =
+    cond (eqb (stepOf s (r .0) (r .1) .refusal) 0) (readingAt i (r .1) ∷ readingsAt i (next s r) rs) (readingsAt i (next s r) rs)

@@ -1,0 +1,139 @@
+-- A vote with all channels valid (request K5), by what it comes to; and the same channel in three of them.
+-- Assumes nothing.
+use Prim.Native.Nat.{ℕ, _+_, _≤_}
+use native.Mathlib.Omega.{arith}
+use mathlib.Core.Bool.{Bool, true, false, cond}
+use mathlib.Core.Path.{_≡_, _∙_, refl, sym, ap, subst, subst⁻¹}
+use lib.Dec.{T, eqb, eqb-refl, lit≤}
+use borrow.Author.Tests.{eqb-true, eqb-false, eq-eqb, ne-eqb}
+use Rattle.voter.specs.Voting.{third, oddOf, oddInARow, byOdd, ofThree, votedBy, voted}
+use Rattle.voter.specs.Numbers.{channelsNumber, channelsAt, numberOf}
+use Rattle.voter.specs.Runs.{Reading, isOdd, majority, heard}
+use Rattle.voter.specs.declared.Channels.{Channels}
+use Rattle.voter.specs.declared.Channels.the-variants.{All, Nothing}
+use Rattle.voter.specs.declared.Voter.{Voter}
+use Rattle.voter.proofs.Numbering.{number-at, all-has-0, all-by-number}
+use Rattle.voter.proofs.Outcomes.{OfThree, of-three}
+use Rattle.voter.proofs.Outcomes.OfThree.{agreed, suspected, struck}
+use Rattle.voter.proofs.Laws.{same-or-none}
+
+-- ---- A vote with all channels valid
+
+-- The odd one of a reading.
+abbrev pub oddIn : Reading → ℕ
+oddIn r = oddOf (r .0) (r .1) (r .2)
+
+pub odd-to-3 : (r : Reading) → oddIn r ≤ 3
+unfolding oddOf
+odd-to-3 (true, true, true) = lit≤ tt
+odd-to-3 (true, true, false) = lit≤ tt
+odd-to-3 (true, false, true) = lit≤ tt
+odd-to-3 (true, false, false) = lit≤ tt
+odd-to-3 (false, true, true) = lit≤ tt
+odd-to-3 (false, true, false) = lit≤ tt
+odd-to-3 (false, false, true) = lit≤ tt
+odd-to-3 (false, false, false) = lit≤ tt
+
+by-odd : (v : Voter) → v .channels ≡ All → (r : Reading) → heard v r ≡ byOdd v (oddIn r) (majority r)
+unfolding voted votedBy ofThree
+by-odd v all r = subst⁻¹ (λ (ch : Channels). votedBy ch v (r .0) (r .1) (r .2) ≡ byOdd v (oddIn r) (majority r)) all refl
+
+-- What it comes to.
+abbrev pub Comes : Voter → Reading → Voter → Type 0
+Comes v r = OfThree v (oddIn r) (majority r)
+
+pub comes : (v : Voter) → v .channels ≡ All → (r : Reading) → Comes v r (heard v r)
+comes v all r = subst⁻¹ (Comes v r) (by-odd v all r) (of-three v (oddIn r) (majority r))
+
+-- ---- So many in a row
+
+-- The next one in a row is the first.
+pub first-in-a-row : (v : Voter) → v .count ≡ 0 → (odd : ℕ) → oddInARow v odd ≡ 1
+first-in-a-row v none odd = by (eqb (v .odd) odd)
+  where
+    by : (same : Bool) → cond same (v .count + 1) 1 ≡ 1
+    by true = rw none
+    by false = refl
+
+-- One more than were counted, or the first.
+pub at-most-one-more : (v : Voter) (odd : ℕ) → oddInARow v odd ≤ v .count + 1
+at-most-one-more v odd = by (eqb (v .odd) odd)
+  where
+    by : (same : Bool) → cond same (v .count + 1) 1 ≤ v .count + 1
+    by true = omega arith
+    by false = omega arith
+
+-- A reading that has a channel as the odd one.
+pub is-odd : (k : ℕ) (r : Reading) → oddIn r ≡ k → T (isOdd k r)
+is-odd k r e = subst (λ (n : ℕ). T (eqb (oddIn r) n)) e (eqb-refl (oddIn r))
+
+-- In a row where the channel is the same, else the first.
+pub same-in-a-row : (v : Voter) (odd : ℕ) → v .odd ≡ odd → oddInARow v odd ≡ v .count + 1
+same-in-a-row v odd e = rw (eq-eqb (v .odd) odd e)
+
+pub other-in-a-row : (v : Voter) (odd : ℕ) → (v .odd ≡ odd → ⊥) → oddInARow v odd ≡ 1
+other-in-a-row v odd e = rw (ne-eqb (v .odd) odd e)
+
+pub none-is-not-all : Nothing ≡ All → ⊥
+none-is-not-all e = omega (arith, ap channelsNumber e)
+
+-- A struck channel has a number, so not all are valid.
+pub struck-is-not-all : (k : ℕ) → k ≤ 3 → 1 ≤ k → channelsAt k ≡ All → ⊥
+struck-is-not-all k high low e = omega (arith, sym (number-at k (omega arith)) ∙ ap channelsNumber e)
+
+-- ---- The same channel once more
+
+-- Where all are valid they were before.
+pub was-all : (w : Voter) (r : Reading) → heard w r .channels ≡ All → w .channels ≡ All
+was-all w r all = by (eqb (numberOf w) 0) refl
+  where
+    by : (zero : Bool) → eqb (numberOf w) 0 ≡ zero → w .channels ≡ All
+    by true e = all-by-number w (eqb-true (numberOf w) 0 e)
+    by false e =
+        let some : w .channels ≡ All → ⊥ = λ is. eqb-false (numberOf w) 0 e (all-has-0 w is) in
+        absurd (same-or-none (λ (ch : Channels). ch ≡ All → ⊥) w some (r .0) (r .1) (r .2) some none-is-not-all all)
+
+at-least-one : (v : Voter) (odd : ℕ) → 1 ≤ oddInARow v odd
+at-least-one v odd = by (eqb (v .odd) odd)
+  where
+    by : (same : Bool) → 1 ≤ cond same (v .count + 1) 1
+    by true = omega arith
+    by false = lit≤ tt
+
+module _ (k : ℕ) (channel : 1 ≤ k) where
+  -- The odd one, and all stay valid: it is counted.
+  counted : (w : Voter) → w .channels ≡ All → (r : Reading) → oddIn r ≡ k → heard w r .channels ≡ All → (heard w r .odd ≡ k) × (heard w r .count ≡ oddInARow w k)
+  counted w all r odd valid = by (heard w r) (comes w all r) valid
+    where
+      by : (u : Voter) → Comes w r u → u .channels ≡ All → (u .odd ≡ k) × (u .count ≡ oddInARow w k)
+      by u (agreed quiet) valid = absurd (omega arith)
+      by u (suspected low few) valid = (odd, ap (oddInARow w) odd)
+      by u (struck low many) valid = absurd (struck-is-not-all (oddIn r) (odd-to-3 r) low valid)
+
+  -- The odd one for the third time: it is struck.
+  strikes : (w : Voter) → w .channels ≡ All → (r : Reading) → oddIn r ≡ k → third ≤ oddInARow w k → heard w r .channels ≡ channelsAt k
+  strikes w all r odd many = by (heard w r) (comes w all r)
+    where
+      by : (u : Voter) → Comes w r u → u .channels ≡ channelsAt k
+      by u (agreed quiet) = absurd (omega arith)
+      by u (suspected low few) = absurd (omega (arith, ap (oddInARow w) odd))
+      by u (struck low over) = ap channelsAt odd
+
+  pub strikes-at-the-third :
+      (w : Voter) (a b c : Reading) →
+      oddIn a ≡ k → oddIn b ≡ k → oddIn c ≡ k →
+      heard (heard w a) b .channels ≡ All →
+      heard (heard (heard w a) b) c .channels ≡ channelsAt k
+  strikes-at-the-third w a b c first second third valid =
+      let all-once : heard w a .channels ≡ All = was-all (heard w a) b valid in
+      let once = counted w (was-all w a all-once) a first all-once in
+      let twice = counted (heard w a) all-once b second valid in
+      strikes (heard (heard w a) b) valid c third
+      (omega (
+        arith,
+        at-least-one w k,
+        once .1,
+        same-in-a-row (heard w a) k (once .0),
+        twice .1,
+        same-in-a-row (heard (heard w a) b) k (twice .0),
+      ))

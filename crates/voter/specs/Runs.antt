@@ -1,0 +1,69 @@
+-- Request K5 over samples in a row: what its laws speak of, in its words and not by the count. Only accepted samples are heard here.
+-- Assumes nothing.
+use Prim.Native.Nat.{ℕ}
+use mathlib.Core.Bool.{Bool, false, not, Bool·beq}
+use mathlib.Core.List.{List, [], _∷_, _++_}
+use mathlib.Core.Path.{_≡_}
+use lib.Dec.{T, eqb}
+use Rattle.common.specs.Bits.{isOne}
+use Rattle.voter.specs.Voting.{oddOf, majorityOf, voted, validChannels}
+use Rattle.voter.specs.Numbers.{numberOf}
+use Rattle.voter.specs.declared.Channels.{Channels}
+use Rattle.voter.specs.declared.Channels.the-variants.{All, Without1, Without2, Without3, Nothing}
+use Rattle.voter.specs.declared.Voter.{Voter}
+
+-- ---- Readings
+
+-- What channels 1, 2 and 3 say in one sample.
+abbrev pub Reading : Type 0
+Reading = Bool × Bool × Bool
+
+-- By numbers, 0 or 1.
+abbrev pub says : ℕ → ℕ → ℕ → Reading
+says one two three = (isOne one, isOne two, isOne three)
+
+-- Channel k is the odd one of three.
+abbrev pub isOdd : ℕ → Reading → Bool
+isOdd k r = eqb (oddOf (r .0) (r .1) (r .2)) k
+
+-- What the majority of three says.
+abbrev pub majority : Reading → Bool
+majority r = majorityOf (r .0) (r .1) (r .2)
+
+-- The two channels that are left differ.
+abbrev pub areApart : Channels → Reading → Bool
+areApart All r = false
+areApart Without1 r = not (Bool·beq (r .1) (r .2))
+areApart Without2 r = not (Bool·beq (r .0) (r .2))
+areApart Without3 r = not (Bool·beq (r .0) (r .1))
+areApart Nothing r = false
+
+-- ---- Votes in a row
+
+-- A sensor after a vote ..
+abbrev pub heard : Voter → Reading → Voter
+heard v r = voted v (r .0) (r .1) (r .2)
+
+-- .. and after one vote for each reading.
+unfoldable pub heardAll : Voter → List Reading → Voter
+heardAll v [] = v
+heardAll v (r ∷ rs) = heardAll (heard v r) rs
+
+-- One channel is struck, and two are valid.
+abbrev pub hasTwo : Voter → Bool
+hasTwo v = eqb (validChannels (v .channels)) 2
+
+-- Channel k, 1 to 3, is struck, and the sensor is not invalid.
+abbrev pub isStruck : ℕ → Voter → Bool
+isStruck k v = eqb (numberOf v) k
+
+-- Somewhere three readings in a row have channel k as the odd one, while all channels are valid.
+pub record ThreeInARow (k : ℕ) (v : Voter) (readings : List Reading) : Type 0 where
+  pub earlier : List Reading
+  pub first : Reading
+  pub second : Reading
+  pub third : Reading
+  pub later : List Reading
+  pub inARow : readings ≡ earlier ++ first ∷ second ∷ third ∷ later
+  pub odd : T (isOdd k first) × T (isOdd k second) × T (isOdd k third)
+  pub allValid : heardAll v (earlier ++ first ∷ second ∷ []) .channels ≡ All
