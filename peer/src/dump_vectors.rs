@@ -11,23 +11,25 @@ use crate::rules::Rules;
 pub type Stored = (&'static str, &'static str, Vec<u8>);
 
 /// Traces with their dump, and what that is for.
-pub const DUMPS_OF_TRACES: [(&str, &str); 29] = [
+pub const DUMPS_OF_TRACES: [(&str, &str); 31] = [
     ("session_s", "Session S: a 3 and a 4 add no time"),
     ("lesson", "a long lesson; the stamp goes round in it, time does not"),
     ("lamps_green_and_orange", "doors, then gears leave; orders, lamps and sensors change together"),
     ("lamps_each_gear", "every gear and door sensor changes by itself, with its lamps"),
     ("lamps_neither", "gears at different ends: sensors change where lamps stay dark"),
     ("lamps_one_channel_odd", "struck channels say anything: the wires show the votes"),
-    ("lamps_invalid_sensor", "an invalid sensor keeps its value, red is latched"),
-    ("lamps_with_anomaly", "wires go on with red latched"),
+    ("lamps_invalid_sensor_three", "an invalid sensor keeps its value, red is latched"),
+    ("lamps_with_anomaly_three", "wires go on with red latched"),
     (
         "lamps_refused_sample",
         "refused rows before the first accepted step and after it; the stamp goes round",
     ),
-    ("general_stop_after_gears", "an invalid sensor other than a gear's or a door's"),
+    ("general_stop_after_gears_three", "an invalid sensor other than a gear's or a door's"),
     ("vote_row_0", "row 0 is not used: the first values are those of a fresh start"),
-    ("vote_two_differ", "a struck channel, then an invalid sensor"),
+    ("vote_struck_stays_three", "struck channels, then invalid sensors"),
+    ("vote_bounces", "bounces that are forgiven: no wire tells"),
     ("channels_0", "channels that come and go"),
+    ("lesson_brushed", "a lesson brushed all through: the dump of the clean one"),
     ("adversarial_0", "many wires change at once"),
     ("stall", "far stalls; an accepted row after many refused ones"),
     ("stalls_0", "elapsed at and past its ends"),

@@ -51,7 +51,7 @@ pub struct Tape {
     pub text: Vec<u8>,
     pub rig: Rig,
     pub rows: u64,
-    rules: Rules,
+    pub(crate) rules: Rules,
 }
 
 pub fn same(seen: u32) -> [u32; 3] {
@@ -87,6 +87,12 @@ impl Tape {
     /// A row `elapsed` ms after the last accepted stamp.
     pub fn after(&mut self, elapsed: u64, sample: [u32; 3]) -> u8 {
         self.at(self.rig.stamp.wrapping_add(elapsed as u32), sample)
+    }
+    /// The same sample so many times.
+    pub fn rows_of(&mut self, times: usize, elapsed: u64, sample: [u32; 3]) {
+        for _ in 0..times {
+            self.after(elapsed, sample);
+        }
     }
     pub fn red(&self) -> bool {
         self.rig.cause != 0
@@ -266,8 +272,12 @@ pub fn adversarial(r: &mut Rng, from: Option<&Rig>) -> Tape {
     let rig = from.map_or_else(|| Rig::fresh(&Rules::default(), stamp), |rig| Rig { stamp, ..rig.clone() });
     let mut tape = Tape::onward(rig, std::array::from_fn(|_| r.draw() as u32 & SENSORS));
     let mut after_red = r.range(3, 40);
+    let mut bounce = Bounce { channel: 0, sensors: 0, rows: 0 };
     while tape.rows < count && after_red > 0 {
         let elapsed = pace.next(r);
+        if from.is_some() {
+            bounce.next(r);
+        }
         let (mut next, mut sample) = (seen, same(seen));
         for attempt in 0..30 {
             next = seen;
@@ -288,7 +298,7 @@ pub fn adversarial(r: &mut Rng, from: Option<&Rig>) -> Tape {
             if attempt > 3 {
                 next = repair(&tape.rig, elapsed, next, attempt > 15);
             }
-            sample = if from.is_some() { bounced(r, &tape.rig, next) } else { same(next) };
+            sample = if from.is_some() { bounce.of(r, &tape.rig, next) } else { same(next) };
             if !tape.would_be_red(elapsed, sample) || !r.permille(patience) {
                 break;
             }
@@ -300,16 +310,37 @@ pub fn adversarial(r: &mut Rng, from: Option<&Rig>) -> Tape {
     tape
 }
 
-/// Channels that do not count say anything, and now and then one that counts says otherwise.
-fn bounced(r: &mut Rng, rig: &Rig, seen: u32) -> [u32; 3] {
-    let mut sample = same(seen);
-    for (channel, says) in sample.iter_mut().enumerate() {
-        *says ^= r.draw() as u32 & SENSORS & (!rig.ok[channel] | rig.invalid);
+/// A channel that counts and says otherwise of some sensors, for some rows.
+struct Bounce {
+    channel: usize,
+    sensors: u32,
+    rows: u64,
+}
+
+impl Bounce {
+    /// A row is over; now and then there is a new bounce.
+    fn next(&mut self, r: &mut Rng) {
+        self.rows = self.rows.saturating_sub(1);
+        if self.rows == 0 && r.permille(60) {
+            *self = Bounce {
+                channel: r.index(3),
+                sensors: 1 << r.below(18) | 1 << r.below(18),
+                rows: r.range(1, 4),
+            };
+        }
     }
-    if r.permille(20) {
-        sample[r.index(3)] ^= 1 << r.below(18);
+
+    /// Channels that do not count say anything.
+    fn of(&self, r: &mut Rng, rig: &Rig, seen: u32) -> [u32; 3] {
+        let mut sample = same(seen);
+        for (channel, says) in sample.iter_mut().enumerate() {
+            *says ^= r.draw() as u32 & SENSORS & (!rig.ok[channel] | rig.invalid);
+        }
+        if self.rows > 0 {
+            sample[self.channel] ^= self.sensors;
+        }
+        sample
     }
-    sample
 }
 
 /// The sample with switch and pressure (and doors and gears) as no monitor minds them.
@@ -337,45 +368,97 @@ fn repair(rig: &Rig, elapsed: u64, seen: u32, all: bool) -> u32 {
     seen
 }
 
-/// Channels that die, bounce, come back; two that die.
+/// What a channel says in place of the truth.
+#[derive(Clone, Copy)]
+enum Says {
+    Zero,
+    One,
+    Anything,
+    Otherwise,
+}
+
+/// A channel of a sensor that goes wrong, from a row until another.
+struct Spell {
+    sensor: u64,
+    channel: usize,
+    rows: std::ops::Range<u64>,
+    says: Says,
+}
+
+/// Some for each sensor: bounces, two rows or three, dead channels; often one close behind another, or at the start. And
+/// of a few sensors a channel goes wrong for long, and then a second one.
+fn spells(r: &mut Rng, count: u64) -> Vec<Spell> {
+    let most = r.pick(&[1, 2, 4, 8]);
+    let mut all = Vec::new();
+    for sensor in 0..18 {
+        let mut first = if r.permille(100) { 1 } else { r.below(count) };
+        for _ in 0..r.below(most + 1) {
+            let length = match r.below(16) {
+                0..=12 => r.pick(&[1, 2, 2, 3, 3, 4]),
+                13 | 14 => r.range(4, 30),
+                _ => count,
+            };
+            let says = r.pick(&[Says::Zero, Says::One, Says::Anything, Says::Otherwise, Says::Otherwise]);
+            all.push(Spell { sensor, channel: r.index(3), rows: first..first + length, says });
+            first = if r.permille(600) { first + length + r.below(3) } else { r.below(count) };
+        }
+    }
+    for _ in 0..r.below(4) {
+        let (sensor, channel, first, says) = (r.below(18), r.index(3), r.below(count), Says::Otherwise);
+        let second = first + r.range(3, 40);
+        all.push(Spell { sensor, channel, rows: first..first + count, says });
+        all.push(Spell { sensor, channel: (channel + 1) % 3, rows: second..second + r.range(3, 20), says });
+    }
+    all
+}
+
+/// The truth as channels tell it; `spared` times in a thousand one that goes wrong does not.
+fn told(r: &mut Rng, spells: &[Spell], row: u64, truth: u32, spared: u64) -> [u32; 3] {
+    let mut sample = same(truth);
+    for spell in spells.iter().filter(|spell| spell.rows.contains(&row)) {
+        let bit = 1 << spell.sensor;
+        let said = &mut sample[spell.channel];
+        match spell.says {
+            _ if r.permille(spared) => {}
+            Says::Zero => *said &= !bit,
+            Says::One => *said |= bit,
+            Says::Anything => *said ^= bit & r.draw() as u32,
+            Says::Otherwise => *said ^= bit,
+        }
+    }
+    sample
+}
+
+/// Channels that bounce, die and come back, alone or two of a sensor; refused samples between.
 pub fn channels(r: &mut Rng) -> Tape {
     let count = r.range(40, 900);
     let pace = Pace::new(r);
     let mut plant = Plant::new(r);
     let bounce = r.pick(&[0, 1, 5, 20, 60]);
-    let second = r.pick(&[0, 0, 20, 100, 500]);
-    let patience = r.pick(&[0, 900, 1000]);
-    // Per sensor the channel that may go wrong (3: none), from which row on, and how.
-    let mut bad: Vec<(usize, u64, u64, u64)> = Vec::new();
-    for _ in 0..18 {
-        let first = r.below(count);
-        let until = if r.permille(500) { u64::MAX } else { first + r.range(1, 30) };
-        bad.push((r.index(4), first, until, r.below(3)));
-    }
+    let refused = r.pick(&[0, 20, 150, 400]);
+    let patience = r.pick(&[0, 0, 900, 1000]);
+    let spells = spells(r, count);
     let noise: [u32; 3] = std::array::from_fn(|_| r.draw() as u32 & SENSORS);
     let mut tape = Tape::new(r.stamp(), if r.permille(500) { noise } else { same(AT_REST) });
     let mut after_red = r.range(3, 40);
     while tape.rows < count && after_red > 0 {
         let elapsed = pace.next(r);
         let truth = plant.see(r, &tape.rig, elapsed);
+        while r.permille(refused) {
+            // Whatever it says, it neither adds to a count nor sets it to 0.
+            let sample = match r.below(3) {
+                0 => same(truth),
+                1 => told(r, &spells, tape.rows, truth, 0),
+                _ => std::array::from_fn(|_| r.draw() as u32 & SENSORS),
+            };
+            tape.after(r.pick(&[0, 101, 200, 1 << 31]), sample);
+        }
         let mut sample = same(truth);
         for attempt in 0..10 {
-            sample = same(truth);
-            for (sensor, &(channel, first, until, how)) in bad.iter().enumerate() {
-                let bit = 1 << sensor;
-                if channel < 3 && (first..until).contains(&tape.rows) {
-                    match how {
-                        0 => sample[channel] &= !bit,
-                        1 => sample[channel] |= bit,
-                        _ => sample[channel] ^= bit & r.draw() as u32,
-                    }
-                }
-                if channel < 3 && r.permille(bounce) {
-                    sample[channel] ^= bit;
-                }
-                if attempt < 8 && r.permille(1) && r.permille(second) {
-                    sample[r.index(3)] ^= bit;
-                    sample[r.index(3)] ^= bit;
+            sample = told(r, &spells, tape.rows, truth, 125 * attempt);
+            for sensor in 0..18 {
+                if attempt < 8 && r.permille(bounce) {
+                    sample[r.index(3)] ^= 1 << sensor;
                 }
             }
             if !tape.would_be_red(elapsed, sample) || !r.permille(patience) {

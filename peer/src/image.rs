@@ -173,6 +173,7 @@ impl Image {
             on: if r.is(Slip::OrdersLost) { 0 } else { on },
             ok: [1, 2, 3].map(|channel| SENSORS & !struck(channel)),
             invalid: bits(|sensor| is(sensor, INVALID)),
+            past: Default::default(), // an image has no place for it
             held,
             doors: self.doors(r),
             gears: self.gears(r),

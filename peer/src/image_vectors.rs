@@ -10,7 +10,7 @@ use crate::rules::Rules;
 use crate::vectors::{handle_up, one, session_s, started, NEVER};
 
 /// Traces with their image; where it is marked, with the image in words too; and what that is for.
-pub const IMAGES_OF_TRACES: [(&str, bool, &str); 21] = [
+pub const IMAGES_OF_TRACES: [(&str, bool, &str); 24] = [
     ("session_s", true, "Session S: doors OPEN, gears EXTENDING with their order on; a 3 and a 4 in it"),
     ("lesson", true, "a long lesson; the stamp goes round in it; every age by itself"),
     ("edge_cause_1", true, "cause 1; doors OPENING and general_EV off"),
@@ -23,9 +23,20 @@ pub const IMAGES_OF_TRACES: [(&str, bool, &str); 21] = [
     ("edge_cause_8", true, "cause 8"),
     ("edge_cause_9", true, "cause 9; general_EV on with doors CLOSED, gears RETRACTED"),
     ("edge_cause_10", true, "cause 10"),
-    ("image_causes", true, "cause 11 kept where 13 holds too and 9 holds later; a sensor invalid"),
-    ("lamps_with_anomaly", true, "cause 12 kept where 13 holds later; invalid sensors held at 1 and at 0"),
-    ("vote_each_channel", true, "cause 13; a channel of each number struck, one sensor invalid"),
+    ("image_causes_three", true, "cause 11 kept where 13 holds too and 9 holds later; a sensor invalid"),
+    (
+        "lamps_with_anomaly_three",
+        true,
+        "cause 12 kept where 13 holds later; invalid sensors held at 1 and at 0",
+    ),
+    ("vote_each_channel_three", true, "cause 13; a channel of each number struck, one sensor invalid"),
+    ("vote_third_in_a_row", false, "three sensors invalid in the same step"),
+    (
+        "vote_bounces",
+        true,
+        "channels struck, none for a bounce; counts of 1 and 2 under way, which have no place",
+    ),
+    ("lesson_brushed", false, "a lesson brushed all through: the image of the clean one"),
     ("image_ages", false, "general_EV's age is 59,999, the handle's was longer and stopped at 60,000"),
     ("image_torn", false, "the last row is torn, the one before it gets 4: the image of the row before"),
     ("bad_row_512_cr", false, "row 0, then a 6: the image of a fresh start"),
@@ -44,7 +55,8 @@ pub(crate) fn own(name: &str) -> Option<Vec<u8>> {
             s.land(GENERAL, 59_999);
             Some(s.tape.text)
         }
-        "image_causes" => Some(causes()),
+        "image_causes" => Some(causes(1)),
+        "image_causes_three" => Some(causes(3)),
         "image_torn" => {
             let rows = cut(&session_s());
             let whole: Vec<u8> = rows[..10].iter().flat_map(|row| [&row[..], b"\r\n"].concat()).collect();
@@ -54,20 +66,20 @@ pub(crate) fn own(name: &str) -> Option<Vec<u8>> {
     }
 }
 
-/// The handle goes up and the switch stays open, with no pressure: cause 11 comes at 1,000 ms, in the step
-/// in which a sensor becomes invalid, and 9 would come at 2,000 ms, in the step in which general_EV stops.
-fn causes() -> Vec<u8> {
+/// The handle goes up and the switch stays open, with no pressure: cause 11 comes at 1,000 ms, and 9 would come at
+/// 2,000 ms, in the step in which general_EV stops. Channel 3 of the absorbers is odd so many times in a row; that
+/// channel 1 is too comes for so many times at 1,000 ms.
+fn causes(times: usize) -> Vec<u8> {
     let seen = AT_REST ^ HANDLE;
     let mut tape = Tape::new(4_294_966_000, same(AT_REST));
     tape.after(100, same(AT_REST));
-    tape.after(100, odd(seen, [0, 0, ON_GROUND]));
-    for _ in 0..9 {
-        tape.after(100, same(seen));
-    }
+    tape.rows_of(times, 100, odd(seen, [0, 0, ON_GROUND]));
+    tape.rows_of(11 - 2 * times, 100, same(seen));
+    tape.rows_of(times - 1, 100, odd(seen, [ON_GROUND, 0, 0]));
     assert!(!tape.red());
-    for _ in 0..11 {
-        tape.after(100, odd(seen, [ON_GROUND, 0, 0]));
-    }
+    tape.after(100, odd(seen, [ON_GROUND, 0, 0]));
+    assert_eq!((tape.rig.cause, tape.rig.invalid != 0), (11, times == 3));
+    tape.rows_of(10, 100, odd(seen, [ON_GROUND, 0, 0]));
     assert!(tape.rig.cause == 11 && !tape.rig.is_on(GENERAL));
     tape.text
 }
@@ -156,6 +168,13 @@ pub fn onwards() -> Vec<Onward> {
         image,
         trace,
     );
+    let (image, trace) = bounces();
+    add(
+        "bounces",
+        "counts of 2 where the lesson is saved: two more samples behind that strike nothing and make nothing invalid",
+        image,
+        trace,
+    );
     let (image, trace) = anomaly();
     add(
         "cause",
@@ -226,7 +245,7 @@ fn struck() -> (Vec<u8>, Vec<u8>) {
     let mut s = handle_up();
     s.until(|rig| rig.doors == Doors::Closed);
     let seen = s.look(50);
-    s.tape.after(50, odd(seen, [0, 1, 2].map(|n| otherwise[n] | agreeing[n])));
+    s.tape.rows_of(3, 50, odd(seen, [0, 1, 2].map(|n| otherwise[n] | agreeing[n])));
     s.land(CLOSE, 900);
     let (image, mut s) = handed(&s, 1_000_000);
     for elapsed in [99, 1, 100] {
@@ -236,10 +255,28 @@ fn struck() -> (Vec<u8>, Vec<u8>) {
     s.down = true;
     let seen = s.look(50);
     s.tape.after(50, odd(seen, otherwise));
-    // A second channel, where the struck one has agreed all the time.
-    let seen = s.look(50);
-    s.tape.after(50, odd(seen, [otherwise[0] | PRESSURIZED, otherwise[1], otherwise[2]]));
-    s.step(50);
+    // A second channel, where the struck one has agreed all the time: a bounce, and then three times.
+    for times in [1, 3] {
+        let seen = s.look(50);
+        s.tape.rows_of(times, 50, odd(seen, [otherwise[0] | PRESSURIZED, otherwise[1], otherwise[2]]));
+        s.step(50);
+    }
+    assert_eq!(s.tape.rig.cause, 13);
+    (image, s.tape.text)
+}
+
+/// Channel 3 of an absorber is odd twice, and the two left of another differ twice; then the same again from the image,
+/// and channel 1 three times. Were a count kept, a sensor would be invalid.
+fn bounces() -> (Vec<u8>, Vec<u8>) {
+    let [front, left] = [0, 1].map(|unit| one(ON_GROUND, unit));
+    let mut s = Script::new(1_000);
+    s.tape.rows_of(3, 50, odd(AT_REST, [0, left, 0]));
+    s.tape.rows_of(2, 50, odd(AT_REST, [left, 0, front]));
+    assert_eq!(s.tape.rig.counting(), front | left);
+    let (image, mut s) = handed(&s, 4_000_000);
+    s.tape.rows_of(2, 50, odd(AT_REST, [left, 0, front]));
+    s.tape.rows_of(3, 50, odd(AT_REST, [front, 0, 0]));
+    assert!(!s.tape.red());
     (image, s.tape.text)
 }
 
@@ -252,8 +289,8 @@ fn anomaly() -> (Vec<u8>, Vec<u8>) {
     s.step(1);
     assert_eq!(s.tape.rig.cause, 7);
     let seen = s.look(50);
-    s.tape.after(50, odd(seen, [invalid, 0, 0]));
-    s.tape.after(50, odd(seen, [invalid, invalid, 0]));
+    s.tape.rows_of(3, 50, odd(seen, [invalid, 0, 0]));
+    s.tape.rows_of(3, 50, odd(seen, [invalid, invalid, 0]));
     s.land(EXTEND, 900);
     let (image, mut s) = handed(&s, 123_456_789);
     for elapsed in [99, 1] {

@@ -1,5 +1,4 @@
-//! A second, independent implementation of document 01 with change requests K1, K2, K3 and K4,
-//! for differential tests.
+//! A second, independent implementation of document 01 with change requests K1 to K5, for differential tests.
 #![forbid(unsafe_code)]
 
 pub mod cli;

@@ -1,8 +1,10 @@
-//! The controller: "One accepted step, in this order" of document 01, with the lamps of K1.
+//! The controller: "One accepted step, in this order" of document 01, with the lamps of K1 and the votes of K5.
 //!
 //! Sensors are bits of a `u32` in the order of the sample, one word per channel; orders are bits
 //! of a `u8` in the order of the output row. An age is not stored: `since` holds the time of the
-//! last change, on a clock that starts at 60,000, so a fresh age is 60,000 and the cap is a `min`.
+//! last change, on a clock that starts at 60,000, so a fresh age is 60,000 and the cap is a `min`. Nor is a count
+//! of a voter: `past` holds what was odd in the last accepted samples, so that three in a row are three masks with
+//! a bit in common, and nothing has to be set to 0.
 
 use crate::rules::{Rules, Slip};
 
@@ -47,6 +49,11 @@ pub enum Doors { Closed, Opening, Open, Closing }
 #[rustfmt::skip]
 pub enum Gears { Retracted, Extending, Extended, Retracting }
 
+/// What is odd in a sample: by channel, the sensors with three valid channels of which it alone says otherwise; and
+/// the sensors of which the two that are left differ.
+type Odd = [u32; 4];
+const SPLIT: usize = 3;
+
 #[derive(Clone, Debug)]
 pub struct Rig {
     pub stamp: u32,
@@ -56,6 +63,9 @@ pub struct Rig {
     /// Per channel, the sensors for which it is not struck.
     pub(crate) ok: [u32; 3],
     pub(crate) invalid: u32,
+    /// What was odd in the last accepted samples, the latest first, without what then led to a strike or made a
+    /// sensor invalid. (The third is for faults.)
+    pub(crate) past: [Odd; 3],
     pub held: u32,
     pub doors: Doors,
     pub gears: Gears,
@@ -81,6 +91,7 @@ impl Rig {
             on: 0,
             ok: [SENSORS; 3],
             invalid: 0,
+            past: Default::default(),
             held,
             doors: Doors::Closed,
             gears: Gears::Extended,
@@ -104,6 +115,11 @@ impl Rig {
         (self.now - self.since[clock]).min(60_000)
     }
 
+    /// The sensors whose voter has counted one sample or two.
+    pub fn counting(&self) -> u32 {
+        self.past[0].iter().fold(0, |all, odd| all | odd)
+    }
+
     pub fn is_on(&self, order: usize) -> bool {
         self.on >> order & 1 == 1
     }
@@ -119,6 +135,8 @@ impl Rig {
                 Slip::StampMovedOn3 if elapsed == 0 => self.stamp = stamp,
                 Slip::AgesGrowRefused => self.now += elapsed,
                 Slip::VoteRefused => self.vote(r, sample),
+                Slip::RefusedCounts => self.count_only(r, sample),
+                Slip::RefusedResets => self.past = Default::default(),
                 Slip::LampsRefused => self.aside = majority(sample),
                 _ => {}
             }
@@ -183,17 +201,16 @@ impl Rig {
         let y = ok_c & c | !ok_c & b;
         let two = SENSORS & !three & !self.invalid;
         let differ = if r.is(Slip::TwoDifferAgree) { 0 } else { two & (x ^ y) };
-        let kept = self.invalid | differ;
-        let mut value = three & majority | two & x & !differ | kept & self.held;
-        if r.is(Slip::InvalidTakesNew) {
-            value ^= differ;
-        }
+        let value = three & majority | two & x & !differ | (self.invalid | differ) & self.held;
+        let odd =
+            [three & (a ^ b) & !(b ^ c), three & (a ^ b) & !(a ^ c), three & (b ^ c) & !(a ^ b), differ];
+        let third = self.third_in_a_row(r, odd);
+        self.held = if r.slip == Slip::None { value } else { self.other_value(r, value, odd, third) };
         if !r.is(Slip::NeverStruck) {
-            let odd = three & (a ^ b | b ^ c);
-            self.ok = [ok_a & !(odd & !(b ^ c)), ok_b & !(odd & !(a ^ c)), ok_c & !(odd & !(a ^ b))];
+            self.ok = [ok_a & !third[0], ok_b & !third[1], ok_c & !third[2]];
         }
-        self.invalid = kept;
-        self.held = value;
+        self.invalid |= third[SPLIT];
+        self.remember(r, odd, third, three);
         match r.slip {
             Slip::LetBack => {
                 let valid = !self.invalid;
@@ -204,6 +221,85 @@ impl Rig {
             Slip::InvalidBack => self.invalid &= a ^ b | b ^ c,
             _ => {}
         }
+    }
+
+    /// What is odd now and was so in the last two accepted samples.
+    #[inline]
+    fn third_in_a_row(&self, r: &Rules, odd: Odd) -> Odd {
+        std::array::from_fn(|n| {
+            let before = (if n == SPLIT { r.invalid_at } else { r.strike_at }) as usize - 1;
+            self.past[..before].iter().fold(odd[n], |all, past| all & past[n])
+        })
+    }
+
+    /// What is odd now becomes what was. A strike or becoming invalid leaves nothing of it.
+    #[inline]
+    fn remember(&mut self, r: &Rules, odd: Odd, third: Odd, three: u32) {
+        let [last, before, _] = self.past;
+        self.past = [std::array::from_fn(|n| odd[n] & !third[n]), last, before];
+        if r.slip != Slip::None {
+            self.remember_wrongly(r, [last, before], odd, third, three);
+        }
+    }
+
+    /// Faults only: another value where a channel is odd or two differ.
+    fn other_value(&self, r: &Rules, value: u32, odd: Odd, third: Odd) -> u32 {
+        let struck = third[0] | third[1] | third[2];
+        let until = (odd[0] | odd[1] | odd[2]) & !struck;
+        let kept = |sensors: u32| value & !sensors | self.held & sensors;
+        match r.slip {
+            Slip::OddTaken => value ^ until,
+            Slip::OddKeepsLast => kept(until),
+            Slip::StrikeKeepsLast => kept(struck),
+            Slip::SplitTakesNew => value ^ odd[SPLIT] & !third[SPLIT],
+            Slip::InvalidTakesNew => value ^ third[SPLIT],
+            _ => value,
+        }
+    }
+
+    /// Faults only: another past.
+    fn remember_wrongly(&mut self, r: &Rules, [last, before]: [Odd; 2], odd: Odd, third: Odd, three: u32) {
+        let any = |of: Odd| of[0] | of[1] | of[2];
+        for n in 0..3 {
+            match r.slip {
+                Slip::KeptOverAgreement => {
+                    let agree = three & !any(odd);
+                    self.past[0][n] |= last[n] & agree;
+                    self.past[1][n] = last[n] & !agree | before[n] & agree;
+                }
+                // As if the odd channel of now had been the odd one before.
+                Slip::KeptOverOther => {
+                    self.past[0][n] = any(odd) & !any(third);
+                    self.past[1][n] = any(last);
+                }
+                Slip::OtherFrom0 => self.past[0][n] &= !(any(last) & !last[n]),
+                _ => {}
+            }
+        }
+        match r.slip {
+            Slip::TwoKeptOverAgreement => {
+                let agree = !three & !odd[SPLIT];
+                self.past[0][SPLIT] |= last[SPLIT] & agree;
+                self.past[1][SPLIT] = last[SPLIT] & !agree | before[SPLIT] & agree;
+            }
+            Slip::TwoFromCount => {
+                self.past[0][SPLIT] |= any(third);
+                self.past[1][SPLIT] |= any(third);
+            }
+            Slip::OneCountForAll => {
+                for past in self.past.iter_mut().flatten().filter(|past| **past != 0) {
+                    *past = SENSORS;
+                }
+            }
+            _ => {}
+        }
+    }
+
+    /// Faults only: a sample that is not voted on, but remembered.
+    pub(crate) fn count_only(&mut self, r: &Rules, sample: [u32; 3]) {
+        let mut voted = self.clone();
+        voted.vote(r, sample);
+        self.past = voted.past;
     }
 
     /// Monitors: the lowest cause that holds, or 0.

@@ -1,10 +1,10 @@
 //! The numbers of document 01 and, for tests, the faults that can be planted.
-//! `Rules::default()` is document 01 with K1's lamps, K2's dumps, K3's images and K4's wall; every fault
-//! moves one number or makes one `Slip`.
+//! `Rules::default()` is document 01 with K1's lamps, K2's dumps, K3's images, K4's wall and K5's votes; every
+//! fault moves one number or makes one `Slip`.
 
 use crate::rig::{CLOSE, EXTEND, GENERAL, HANDLE_CLOCK, OPEN, RETRACT};
 
-/// One way of getting document 01, K1, K2, K3 or K4 wrong that is not a moved number. A number in it is a
+/// One way of getting document 01 or one of K1 to K5 wrong that is not a moved number. A number in it is a
 /// unit: 0 front, 1 left, 2 right; for images a sensor, an order, a clock, or doors and gears by number; for
 /// the wall a fact, an entry or a place.
 #[derive(Clone, Copy, PartialEq, Eq, Debug)]
@@ -19,6 +19,11 @@ pub enum Slip {
     AgesGoRound, StartKeepsAge, StopKeepsAge, HandleAgeKept, HandleAgeLate,
     // Voting
     LetBack, NeverStruck, FirstChannel, TwoDifferAgree, TwoDifferNoRed, InvalidTakesNew, InvalidBack,
+    // What is counted before a strike, or before a sensor is invalid
+    KeptOverAgreement, TwoKeptOverAgreement, KeptOverOther, OtherFrom0, TwoFromCount, OneCountForAll,
+    RefusedCounts, RefusedResets, Row0Counts,
+    // The value until then
+    OddTaken, OddKeepsLast, StrikeKeepsLast, SplitTakesNew,
     // Monitors
     MonitorsFirst, MonitorsOldAge, NotLatched, Cause11NoEnd,
     // Sequence
@@ -124,6 +129,9 @@ pub struct Rules {
     /// The age at which cause 11 holds no more.
     pub cause_11_end: u64,
     pub row_max: usize,
+    /// At which accepted sample in a row an odd channel is struck, and a sensor whose two channels differ invalid.
+    pub strike_at: u64,
+    pub invalid_at: u64,
     pub top: Tops,
     pub slip: Slip,
 }
@@ -141,6 +149,8 @@ impl Default for Rules {
             ],
             cause_11_end: 20_000,
             row_max: 512,
+            strike_at: 3,
+            invalid_at: 3,
             top: Tops {
                 voter: 4,
                 held: 1,
@@ -318,6 +328,33 @@ pub fn faults() -> Vec<(String, Rules)> {
     }
     all.push(("age_cap_21499".into(), Rules { age_cap: 21_499, ..Rules::default() }));
     all.push(("opposite_wait_0".into(), Rules { opposite_wait: 0, ..Rules::default() }));
+    all.extend(count_faults());
+    all
+}
+
+/// Faults of K5: when a channel is struck or a sensor invalid, what is counted, and the value until then.
+fn count_faults() -> Vec<(String, Rules)> {
+    use Slip::*;
+    let mut all = Vec::new();
+    for n in [1, 2, 4] {
+        all.push((format!("struck_at_sample_{n}"), Rules { strike_at: n, ..Rules::default() }));
+        all.push((format!("invalid_at_sample_{n}"), Rules { invalid_at: n, ..Rules::default() }));
+    }
+    all.extend(slips(&[
+        ("count_kept_over_agreement", KeptOverAgreement),
+        ("count_of_two_kept_over_agreement", TwoKeptOverAgreement),
+        ("count_kept_over_other_odd_channel", KeptOverOther),
+        ("other_odd_channel_starts_at_0", OtherFrom0),
+        ("two_left_begin_with_count_of_strike", TwoFromCount),
+        ("one_count_for_all_sensors", OneCountForAll),
+        ("refused_sample_counts", RefusedCounts),
+        ("refused_sample_resets_count", RefusedResets),
+        ("row_0_counts", Row0Counts),
+        ("odd_channel_taken_until_struck", OddTaken),
+        ("last_value_kept_until_struck", OddKeepsLast),
+        ("last_value_kept_when_struck", StrikeKeepsLast),
+        ("two_differ_new_value_taken", SplitTakesNew),
+    ]));
     all
 }
 
@@ -425,6 +462,7 @@ pub fn sheet_faults() -> Vec<(String, Rules)> {
 /// Faults that an image shows, or what is loaded from one.
 pub fn image_faults() -> Vec<(String, Rules)> {
     let mut all = unseen_in_rows();
+    all.extend(count_faults());
     all.extend(saving_faults());
     all.extend(form_faults());
     all.extend(range_faults());

@@ -236,8 +236,10 @@ impl Start<'_> {
             Start::From(image) if !r.is(Slip::FreshInstead) => image.start(r, row.stamp),
             _ => Rig::fresh(r, row.stamp),
         };
-        if r.is(Slip::Row0Used) {
-            rig.vote(r, row.sample);
+        match r.slip {
+            Slip::Row0Used => rig.vote(r, row.sample),
+            Slip::Row0Counts => rig.count_only(r, row.sample),
+            _ => {}
         }
         if let (Start::From(_), Slip::Row0Stepped) = (self, r.slip) {
             rig.stamp = row.stamp.wrapping_sub(1);

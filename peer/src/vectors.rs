@@ -3,6 +3,7 @@
 
 use crate::gen::{cut, field, lesson, same, trace, Script, Tape, Travel};
 use crate::rig::*;
+use crate::rules::Rules;
 use crate::trace::HEADER;
 
 pub(crate) const NEVER: u64 = u64::MAX;
@@ -100,8 +101,8 @@ pub fn session_s() -> Vec<u8> {
     tape.text
 }
 
-/// Two samples in which one channel of a sensor is odd, and one in which another is.
-fn vote(sensor: u32, then: [bool; 3]) -> Vec<u8> {
+/// So many samples in which channel 3 of a sensor is odd, and so many in which another is.
+fn vote(sensor: u32, odd_3: usize, then: [bool; 3], times: usize) -> Vec<u8> {
     let mut tape = Tape::new(7, same(AT_REST));
     let rest = same(AT_REST);
     tape.after(10, rest);
@@ -110,14 +111,37 @@ fn vote(sensor: u32, then: [bool; 3]) -> Vec<u8> {
         (0..3).filter(|&n| channels[n]).for_each(|n| sample[n] ^= sensor);
         sample
     };
-    tape.after(10, odd([false, false, true])); // P1: channel 3 struck
-    tape.after(10, odd([false, false, true]));
+    tape.rows_of(odd_3, 10, odd([false, false, true])); // P1: struck at the third
     tape.after(10, rest); // P3: it stays struck
     tape.after(10, odd([true, true, false]));
-    tape.after(10, odd(then));
+    tape.rows_of(times, 10, odd(then)); // P2: invalid at the third
     tape.after(10, rest);
     tape.after(10, odd([true, true, true]));
     tape.text
+}
+
+/// Rows at rest, by what the channels of some sensors do: a letter for each row, row 0 first. `1`, `2`, `3`: that
+/// channel says otherwise; `y`: channels 1 and 2 do; `x`: all do; `.`: none. `beat` says which rows are accepted (`+`),
+/// get 3 (`0`) or 4 (`>`).
+fn told(beat: &str, sensors: &[(u32, &str)]) -> Tape {
+    let sample = |row: usize| {
+        let mut sample = same(AT_REST);
+        for (sensor, letters) in sensors {
+            assert_eq!(letters.len(), beat.len());
+            for (n, letter) in ["1xy", "2xy", "3x"].into_iter().enumerate() {
+                if letter.contains(&letters[row..row + 1]) {
+                    sample[n] ^= sensor;
+                }
+            }
+        }
+        sample
+    };
+    let mut tape = Tape::new(4_294_967_000, sample(0));
+    for (row, kind) in beat.bytes().enumerate().skip(1) {
+        let (elapsed, code) = [(50, 0), (0, 3), (101, 4)][b"+0>".iter().position(|b| *b == kind).unwrap()];
+        assert_eq!(tape.after(elapsed, sample(row)), code);
+    }
+    tape
 }
 
 /// From a fresh start, samples on which the channels agree. No order is ever on with the handle
@@ -281,18 +305,12 @@ pub fn vectors() -> Vec<(String, Vec<u8>)> {
         s.tape.text
     });
     add("general_stop_after_gears", {
-        // The doors are seen closed at once: the gear order is the last to be quiet for 1,000 ms.
-        let mut s = handle_up();
-        s.until(|rig| rig.is_on(RETRACT));
-        let mut seen = s.look(50) | DOOR_CLOSED | DOOR_OPEN;
-        for invalid in [false, false, true, true] {
-            // Channel 1 of the switch is struck, then the sensor is invalid.
-            seen |= SWITCH;
-            s.tape.after(50, [seen & !SWITCH, seen, if invalid { seen & !SWITCH } else { seen }]);
-        }
-        s.land(RETRACT, 999);
-        s.step(1);
-        s.tape.text
+        // The rows that the rig before K5 gave rise to.
+        let before_k5 = Rules { strike_at: 1, invalid_at: 1, ..Rules::default() };
+        stop_after_gears(before_k5, &[false, false, true, true])
+    });
+    add("general_stop_after_gears_three", {
+        stop_after_gears(Rules::default(), &[false, false, false, true, true, true, true])
     });
     add("latching_move", {
         let mut s = handle_up();
@@ -336,29 +354,46 @@ pub fn vectors() -> Vec<(String, Vec<u8>)> {
     });
 
     // Voting.
-    add("vote_struck_stays", vote(ON_GROUND, [true, false, false]));
-    add("vote_two_differ", vote(1 << 8, [false, true, true]));
-    add("vote_handle", vote(HANDLE, [true, true, false]));
-    add("vote_each_channel", {
-        let mut tape = Tape::new(0, same(AT_REST));
-        for channel in 0..3 {
-            let mut sample = same(AT_REST);
-            sample[channel] ^= 1 << (8 + channel) | 1 << (5 + channel);
-            tape.after(50, sample);
-        }
-        for channel in 0..3 {
-            // A struck channel says anything.
-            let mut sample = same(AT_REST);
-            sample[channel] ^= 1 << (8 + channel);
-            tape.after(50, sample);
-        }
-        let mut sample = same(AT_REST & !HANDLE);
-        sample[0] ^= HANDLE;
-        for _ in 0..4 {
-            tape.after(100, sample);
-        }
-        sample[2] ^= 1 << 9;
-        tape.after(50, sample);
+    add("vote_struck_stays", vote(ON_GROUND, 2, [true, false, false], 1));
+    add("vote_two_differ", vote(1 << 8, 2, [false, true, true], 1));
+    add("vote_handle", vote(HANDLE, 2, [true, true, false], 1));
+    add("vote_each_channel", each_channel(1));
+    add("vote_struck_stays_three", vote(GEAR_EXTENDED, 3, [true, false, false], 3));
+    add("vote_handle_three", vote(HANDLE, 3, [false, true, false], 3));
+    add("vote_each_channel_three", each_channel(3));
+    add("vote_bounces", {
+        let tape = told(
+            "++0++++++++++++>+++",
+            &[
+                // Two in a row with agreement between; then of the two left, just behind the strike, with agreement
+                // between, with a refused sample between.
+                (one(ON_GROUND, 0), ".3.3.33.11122.322.2"),
+                // Another channel between; a refused sample between; row 0 before; other sensors before; once.
+                (one(ON_GROUND, 1), ".3.3233.111........"),
+                (one(ON_GROUND, 2), ".333....111........"),
+                (one(DOOR_OPEN, 0), "33.3....111........"),
+                (one(DOOR_OPEN, 1), "....33..111........"),
+                (one(DOOR_OPEN, 2), ".3......111........"),
+                // Two at the end.
+                (SWITCH, ".................33"),
+            ],
+        );
+        assert!(!tape.red());
+        tape.text
+    });
+    add("vote_third_in_a_row", {
+        // The gears' extended are struck in one row and invalid in one row: refused samples between; another channel
+        // before, and the two left differ in turn; two in a row and agreement before. With a strike the value changes.
+        let tape = told(
+            "+++++0+>++++++0+>+++",
+            &[
+                (one(GEAR_EXTENDED, 0), "....3.3.3....1.1.1x."),
+                (one(GEAR_EXTENDED, 1), "...23.3.3....1.2.1x."),
+                (one(GEAR_EXTENDED, 2), ".33.3.3.3.12.1.1.1x."),
+                (one(GEAR_RETRACTED, 0), ".................33y"),
+            ],
+        );
+        assert!(tape.red());
         tape.text
     });
     add("vote_row_0", {
@@ -423,44 +458,10 @@ pub fn vectors() -> Vec<(String, Vec<u8>)> {
         assert!(!tape.red());
         tape.text
     });
-    add("lamps_invalid_sensor", {
-        // The front gear is last voted extended; becoming invalid latches the anomaly.
-        let mut tape = Tape::new(0, same(AT_REST));
-        let front = one(GEAR_EXTENDED, 0);
-        tape.after(50, [AT_REST, AT_REST, AT_REST ^ front]);
-        tape.after(50, [AT_REST, AT_REST ^ front, AT_REST ^ front]);
-        assert!(tape.red());
-        // All its channels say otherwise; the other sensors count.
-        let others = UP_AT_REST ^ one(GEAR_RETRACTED, 0);
-        for seen in [AT_REST ^ front, AT_REST ^ front, AT_REST ^ GEAR_EXTENDED, others, AT_REST] {
-            tape.after(50, same(seen));
-        }
-        tape.text
-    });
-    add("lamps_with_anomaly", {
-        // The switch is closed for too long in a step in which the doors leave.
-        let mut tape = Tape::new(0, same(AT_REST));
-        tape.after(50, same(AT_REST));
-        tape.after(50, same(AT_REST ^ DOOR_CLOSED | SWITCH));
-        assert!(tape.red());
-        for seen in [AT_REST, UP_AT_REST, AT_REST ^ GEAR_EXTENDED, AT_REST] {
-            tape.after(50, same(seen));
-        }
-        // The left gear's extended is struck, then invalid at 1; its channels change.
-        let left = one(GEAR_EXTENDED, 1);
-        tape.after(50, [AT_REST, AT_REST, AT_REST ^ left]);
-        tape.after(50, [AT_REST ^ left, AT_REST, AT_REST ^ left]);
-        tape.after(50, same(AT_REST ^ left));
-        tape.after(50, same(AT_REST ^ left));
-        // The front door's closed is struck, then invalid at 0; its channels change.
-        let front = one(DOOR_CLOSED, 0);
-        tape.after(50, [AT_REST, AT_REST ^ front, AT_REST ^ front]);
-        tape.after(50, [AT_REST, AT_REST, AT_REST ^ front]);
-        for seen in [AT_REST, AT_REST, UP_AT_REST, AT_REST] {
-            tape.after(50, same(seen));
-        }
-        tape.text
-    });
+    add("lamps_invalid_sensor", invalid_gear(1));
+    add("lamps_invalid_sensor_three", invalid_gear(3));
+    add("lamps_with_anomaly", with_anomaly(1));
+    add("lamps_with_anomaly_three", with_anomaly(3));
     add("lamps_refused_sample", {
         // Before the first accepted step and after it, a refused sample lights nothing.
         let mut tape = Tape::new(4_294_967_250, same(0));
@@ -546,6 +547,88 @@ pub fn vectors() -> Vec<(String, Vec<u8>)> {
     add("header_only", HEADER.to_vec());
     add("random_edges", trace(5, "edges", None).unwrap());
     all
+}
+
+/// The doors are seen closed at once: the gear order is the last to be quiet for 1,000 ms. Channel 1 of the switch is
+/// struck, then channel 3 differs too and the sensor is invalid.
+fn stop_after_gears(rules: Rules, differ: &[bool]) -> Vec<u8> {
+    let mut s = handle_up();
+    s.tape.rules = rules;
+    s.until(|rig| rig.is_on(RETRACT));
+    let seen = s.look(50) | DOOR_CLOSED | DOOR_OPEN | SWITCH;
+    for differ in differ {
+        s.tape.after(50, [seen & !SWITCH, seen, if *differ { seen & !SWITCH } else { seen }]);
+    }
+    assert!(s.tape.red());
+    s.land(RETRACT, 999);
+    s.step(1);
+    s.tape.text
+}
+
+/// Each channel is odd so many times in a row, for two sensors; struck, it says anything. Then channel 1 of the handle,
+/// and so many times a second channel of an absorber.
+fn each_channel(times: usize) -> Vec<u8> {
+    let mut tape = Tape::new(0, same(AT_REST));
+    for channel in 0..3 {
+        let mut sample = same(AT_REST);
+        sample[channel] ^= 1 << (8 + channel) | 1 << (5 + channel);
+        tape.rows_of(times, 50, sample);
+    }
+    for channel in 0..3 {
+        let mut sample = same(AT_REST);
+        sample[channel] ^= 1 << (8 + channel);
+        tape.after(50, sample);
+    }
+    let mut sample = same(AT_REST & !HANDLE);
+    sample[0] ^= HANDLE;
+    for _ in 0..4 {
+        tape.after(100, sample);
+    }
+    sample[2] ^= 1 << 9;
+    tape.rows_of(times, 50, sample);
+    assert_eq!(tape.red(), times == 3);
+    tape.text
+}
+
+/// The front gear is last voted extended, one of its channels odd so many times, then two that differ. Becoming invalid
+/// latches the anomaly.
+fn invalid_gear(times: usize) -> Vec<u8> {
+    let mut tape = Tape::new(0, same(AT_REST));
+    let front = one(GEAR_EXTENDED, 0);
+    tape.rows_of(times, 50, [AT_REST, AT_REST, AT_REST ^ front]);
+    tape.rows_of(times, 50, [AT_REST, AT_REST ^ front, AT_REST ^ front]);
+    assert_eq!(tape.red(), times == 3);
+    // All its channels say otherwise; the other sensors count.
+    let others = UP_AT_REST ^ one(GEAR_RETRACTED, 0);
+    for seen in [AT_REST ^ front, AT_REST ^ front, AT_REST ^ GEAR_EXTENDED, others, AT_REST] {
+        tape.after(50, same(seen));
+    }
+    tape.text
+}
+
+/// The switch is closed for too long in a step in which the doors leave; then channels are odd so many times.
+fn with_anomaly(times: usize) -> Vec<u8> {
+    let mut tape = Tape::new(0, same(AT_REST));
+    tape.after(50, same(AT_REST));
+    tape.after(50, same(AT_REST ^ DOOR_CLOSED | SWITCH));
+    assert!(tape.red());
+    for seen in [AT_REST, UP_AT_REST, AT_REST ^ GEAR_EXTENDED, AT_REST] {
+        tape.after(50, same(seen));
+    }
+    // The left gear's extended is struck, then invalid at 1; its channels change.
+    let left = one(GEAR_EXTENDED, 1);
+    tape.rows_of(times, 50, [AT_REST, AT_REST, AT_REST ^ left]);
+    tape.rows_of(times, 50, [AT_REST ^ left, AT_REST, AT_REST ^ left]);
+    tape.after(50, same(AT_REST ^ left));
+    tape.after(50, same(AT_REST ^ left));
+    // The front door's closed is struck, then invalid at 0; its channels change.
+    let front = one(DOOR_CLOSED, 0);
+    tape.rows_of(times, 50, [AT_REST, AT_REST ^ front, AT_REST ^ front]);
+    tape.rows_of(times, 50, [AT_REST, AT_REST, AT_REST ^ front]);
+    for seen in [AT_REST, AT_REST, UP_AT_REST, AT_REST] {
+        tape.after(50, same(seen));
+    }
+    tape.text
 }
 
 /// Causes 3 and 4: the doors close after a turn back.

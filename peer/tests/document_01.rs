@@ -1,5 +1,6 @@
-//! Document 01 with change request K1, told by examples.
+//! Document 01 with change requests K1 and K5, told by examples.
 use peer::gen::{same, trace, Script, Tape, KINDS};
+use peer::image::Image;
 use peer::rig::*;
 use peer::rules::{faults, unseen, Rules};
 use peer::trace::{replay, replay_bytes, HEADER, OUT_HEADER};
@@ -47,18 +48,29 @@ fn what_is_stored_is_the_peers() {
     assert_eq!(peer::stored::check(cases).unwrap(), Vec::<String>::new());
 }
 
+/// By the text of K5: at the third sample in a row.
 #[test]
 fn votes_p1_p2_p3() {
     let rules = Rules::default();
+    let ground = AT_REST | ON_GROUND;
+    let mut rig = Rig::fresh(&rules, 0);
+    for (stamp, third) in [(10, false), (20, false), (30, true)] {
+        rig.step(&rules, stamp, [ground, ground, AT_REST]); // P1
+        assert_eq!((rig.held & ON_GROUND, rig.cause), (ON_GROUND, 0));
+        let voters = Image::of(&rules, &rig).voter;
+        assert_eq!(voters[8..11], [if third { 3 } else { 0 }; 3]);
+    }
+    rig.step(&rules, 40, same(ground)); // P3: channel 3 agrees and stays struck
+    assert_eq!(Image::of(&rules, &rig).voter[8..11], [3; 3]);
+    for (stamp, cause) in [(50, 0), (60, 0), (70, 13)] {
+        rig.step(&rules, stamp, [ground, AT_REST, AT_REST]); // P2
+        assert_eq!((rig.held & ON_GROUND, rig.cause), (ON_GROUND, cause));
+    }
+    assert_eq!(Image::of(&rules, &rig).voter[8..11], [4; 3]);
+    // The votes of an odd channel's first sample count for the monitors.
     let mut rig = Rig::fresh(&rules, 0);
     rig.step(&rules, 10, [AT_REST | SWITCH, AT_REST | SWITCH, AT_REST]);
-    assert_eq!((rig.held & SWITCH, rig.cause), (SWITCH, 12)); // P1
-    let mut rig = Rig::fresh(&rules, 0);
-    rig.step(&rules, 10, [AT_REST | ON_GROUND, AT_REST | ON_GROUND, AT_REST]);
-    assert_eq!((rig.held & ON_GROUND, rig.cause), (ON_GROUND, 0));
-    rig.step(&rules, 20, same(AT_REST | ON_GROUND)); // P3: channel 3 agrees and stays struck
-    rig.step(&rules, 30, [AT_REST | ON_GROUND, AT_REST, AT_REST]); // P2
-    assert_eq!((rig.held & ON_GROUND, rig.cause), (ON_GROUND, 13));
+    assert_eq!((rig.held & SWITCH, rig.cause), (SWITCH, 12));
 }
 
 #[test]
@@ -194,13 +206,32 @@ fn lamps_by_the_voted_sensors() {
 
 #[test]
 fn lamps_keep_the_value_of_an_invalid_sensor() {
-    assert_eq!(lamps("lamps_invalid_sensor"), ["100", "100", "101", "101", "101", "011", "001", "101"]);
+    assert_eq!(
+        lamps("lamps_invalid_sensor_three"),
+        ["100", "100", "100", "100", "100", "100", "101", "101", "101", "011", "001", "101"]
+    );
+    assert_eq!(
+        lamps("lamps_with_anomaly_three"),
+        [
+            "100", "100", "111", "101", "001", "011", "101", // sound sensors
+            "101", "101", "101", "101", "101", "101", "101",
+            "101", // the left gear's extended kept at 1
+            "111", "111", "111", "111", "111", "111", "111", "111", "011",
+            "111", // the front door's closed kept at 0
+        ]
+    );
+}
+
+/// The same samples once each: no sensor is invalid, and the lamps go by the majority.
+#[test]
+fn lamps_follow_where_channels_bounce() {
+    assert_eq!(lamps("lamps_invalid_sensor"), ["100", "100", "010", "010", "010", "010", "010", "100"]);
     assert_eq!(
         lamps("lamps_with_anomaly"),
         [
             "100", "100", "111", "101", "001", "011", "101", // sound sensors
-            "101", "101", "101", "101", // the left gear's extended kept at 1
-            "111", "111", "111", "111", "011", "111", // the front door's closed kept at 0
+            "101", "011", "011", "011", // the left gear's extended
+            "111", "101", "101", "101", "001", "101", // the front door's closed
         ]
     );
 }

@@ -96,6 +96,26 @@ fn the_words_of_session_s() {
     );
 }
 
+/// The last row up to this one after which no voter has counted anything (K5: an image drops what they have counted).
+fn uncounted(trace: &[u8], at: usize) -> usize {
+    let rules = Rules::default();
+    let mut rig = Rig::fresh(&rules, 0);
+    let mut last = 0;
+    for (label, row) in cut(trace)[1..at + 2].iter().enumerate() {
+        let fields: Vec<&[u8]> = row.split(|&b| b == b',').collect();
+        let stamp = std::str::from_utf8(fields[1]).unwrap().parse().unwrap();
+        let channel = |n: usize| (0..18).fold(0, |all, s| all | u32::from(fields[s + 2][n] - b'0') << s);
+        match label {
+            0 => rig = Rig::fresh(&rules, stamp),
+            _ => _ = rig.step(&rules, stamp, [0, 1, 2].map(channel)),
+        }
+        if rig.counting() == 0 {
+            last = label;
+        }
+    }
+    last
+}
+
 /// A trace in form, cut in two: saved after some row, gone on from with the rest under new labels.
 #[test]
 fn a_lesson_handed_over_is_the_same_lesson() {
@@ -104,7 +124,7 @@ fn a_lesson_handed_over_is_the_same_lesson() {
         let text = trace(seed, kind, None).unwrap();
         let all = cut(&text);
         let last = all.len() - 2;
-        let at = (seed as usize * 37) % (last + 1);
+        let at = uncounted(&text, (seed as usize * 37) % (last + 1));
         let image = save(&rows(&text, at + 1));
         // Row 0 of the second part: the sample does not count, the stamp is that of the last accepted row.
         let stamp = items(&image)[0];
