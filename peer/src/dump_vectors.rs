@@ -11,7 +11,7 @@ use crate::rules::Rules;
 pub type Stored = (&'static str, &'static str, Vec<u8>);
 
 /// Traces with their dump, and what that is for.
-pub const DUMPS_OF_TRACES: [(&str, &str); 31] = [
+pub const DUMPS_OF_TRACES: [(&str, &str); 32] = [
     ("session_s", "Session S: a 3 and a 4 add no time"),
     ("lesson", "a long lesson; the stamp goes round in it, time does not"),
     ("lamps_green_and_orange", "doors, then gears leave; orders, lamps and sensors change together"),
@@ -30,6 +30,7 @@ pub const DUMPS_OF_TRACES: [(&str, &str); 31] = [
     ("vote_bounces", "bounces that are forgiven: no wire tells"),
     ("channels_0", "channels that come and go"),
     ("lesson_brushed", "a lesson brushed all through: the dump of the clean one"),
+    ("lesson_clean", "the same lesson with no bounce: the same dump"),
     ("adversarial_0", "many wires change at once"),
     ("stall", "far stalls; an accepted row after many refused ones"),
     ("stalls_0", "elapsed at and past its ends"),
