@@ -12,5 +12,6 @@ pub mod Cutting
 pub mod Traces
 pub mod Accounts
 pub mod Cut
+pub mod Brushed
 pub mod Tables
 pub mod WorstFile

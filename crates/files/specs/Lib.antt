@@ -8,3 +8,4 @@ pub mod Later
 pub mod Left
 pub mod Traces
 pub mod Cut
+pub mod Brushed

@@ -43,7 +43,7 @@ loses-nothing-exactly s = (λ e. lost-none (s .voters) (ap (λ (t : State). t .v
 
 -- ---- Of the rules only one looks at sensors: whether one is invalid.
 
-invalid-too : (vs : List Voter) → some isInvalid (map countDropped vs) ≡ some isInvalid vs
+pub invalid-too : (vs : List Voter) → some isInvalid (map countDropped vs) ≡ some isInvalid vs
 unfolding some
 invalid-too [] = refl
 invalid-too (v ∷ vs) = rw (dropped-is-invalid-too v, invalid-too vs)

@@ -26,7 +26,7 @@ use Rattle.controller.specs.Steps.{refusalOf, stepAt, stepOf}
 use Rattle.controller.specs.Samples.{Row, after}
 use Rattle.image.specs.Rules.{every}
 use Rattle.laws.specs.Times.{next}
-use Rattle.laws.specs.Bounces.{sensorAt, readingAt, readingsAt}
+use Rattle.laws.specs.Bounces.{sensorAt, AllQuiet, readingAt, readingsAt}
 use Rattle.laws.proofs.Stages.{stages}
 use Rattle.laws.proofs.Lifted.{votes-length, step-keeps}
 
@@ -96,20 +96,21 @@ quiet-at [] each i less d = absurd (omega arith)
 quiet-at (v ∷ vs) each zero less d = and-yes (isQuiet v) _ each .0
 quiet-at (v ∷ vs) each (suc i) less d = quiet-at vs (and-yes (isQuiet v) _ each .1) i (omega arith) d
 
-module _ (stamp i : ℕ) (within : i < 18) where
-  sensors : i < length (freshOf stamp .voters)
-  unfolding freshOf freshVoters
-  sensors = within
+each-is-quiet : (stamp : ℕ) → T (every (map isQuiet (freshOf stamp .voters)))
+unfolding freshOf freshVoters freshWith numberOf
+each-is-quiet stamp = tt
 
-  quiet : T (eqb (numberOf (sensorAt i (freshOf stamp))) 0) × T (eqb (sensorAt i (freshOf stamp) .count) 0)
-  unfolding freshOf freshVoters freshWith numberOf
-  quiet =
-      and-yes (eqb (numberOf (sensorAt i (freshOf stamp))) 0) (eqb (sensorAt i (freshOf stamp) .count) 0)
-      (quiet-at (freshOf stamp .voters) tt i sensors (freshWith false))
+pub fresh-is-quiet : (stamp : ℕ) → AllQuiet (freshOf stamp)
+fresh-is-quiet stamp i within =
+    let v = sensorAt i (freshOf stamp) in
+    let quiet = and-yes (eqb (numberOf v) 0) (eqb (v .count) 0) (quiet-at (freshOf stamp .voters) (each-is-quiet stamp) i within (freshWith false)) in
+    (all-by-number v (eqb→eq (numberOf v) 0 (quiet .0)), eqb→eq (v .count) 0 (quiet .1))
 
-  pub struck-exactly-from-a-fresh-start : (k : ℕ) → 1 ≤ k → (rows : List Row)
-      → isInvalid (sensorAt i (after (freshOf stamp) rows)) ≡ false
-      → T (isStruck k (sensorAt i (after (freshOf stamp) rows)))
-      ↔ ThreeInARow k (sensorAt i (freshOf stamp)) (readingsAt i (freshOf stamp) rows)
-  struck-exactly-from-a-fresh-start =
-      struck-exactly-over-a-run i (freshOf stamp) sensors (all-by-number (sensorAt i (freshOf stamp)) (eqb→eq _ 0 (quiet .0))) (eqb→eq _ 0 (quiet .1))
+pub struck-exactly-from-a-fresh-start : (stamp i : ℕ) → i < 18 → (k : ℕ) → 1 ≤ k → (rows : List Row)
+    → isInvalid (sensorAt i (after (freshOf stamp) rows)) ≡ false
+    → T (isStruck k (sensorAt i (after (freshOf stamp) rows)))
+    ↔ ThreeInARow k (sensorAt i (freshOf stamp)) (readingsAt i (freshOf stamp) rows)
+unfolding freshOf freshVoters
+struck-exactly-from-a-fresh-start stamp i within =
+    let quiet = fresh-is-quiet stamp i within in
+    struck-exactly-over-a-run i (freshOf stamp) within (quiet .0) (quiet .1)

@@ -2,10 +2,12 @@
 -- Assumes nothing.
 use mathlib.Core.Bool.{Bool, false, cond}
 use mathlib.Core.List.{List, [], _∷_}
-use Prim.Native.Nat.{ℕ, _+_, _*_}
+use mathlib.Core.Path.{_≡_}
+use Prim.Native.Nat.{ℕ, _+_, _*_, _<_}
 use lib.Dec.{eqb}
-use lib.ListN.{getD}
+use lib.ListN.{length, getD}
 use Rattle.voter.specs.declared.Voter.{Voter}
+use Rattle.voter.specs.declared.Channels.the-variants.{All}
 use Rattle.voter.specs.Voting.{freshWith}
 use Rattle.voter.specs.Runs.{Reading}
 use Rattle.controller.specs.declared.State.{State}
@@ -17,6 +19,10 @@ use Rattle.laws.specs.Times.{next}
 -- Sensor i of a controller, counted from 0 in the sample's order.
 abbrev pub sensorAt : ℕ → State → Voter
 sensorAt i s = getD (s .voters) i (freshWith false)
+
+-- All channels of every sensor are valid, and every count is 0, as at a fresh start.
+abbrev pub AllQuiet : State → Type 0
+AllQuiet s = (i : ℕ) → i < length (s .voters) → (sensorAt i s .channels ≡ All) × (sensorAt i s .count ≡ 0)
 
 -- What its three channels say in a sample.
 abbrev pub readingAt : ℕ → List ℕ → Reading

@@ -1,0 +1,285 @@
+-- A lesson that is brushed, every bounce forgiven, gets the answers of the clean one but for the counts (request K5); so its rows and its image
+-- are the same bytes.
+-- Assumes nothing.
+use Prim.Native.Nat.{ℕ, zero, suc, _+_, _<_}
+use native.Mathlib.Omega.{arith}
+use mathlib.Core.Bool.{Bool, true, false, cond}
+use mathlib.Core.List.{List, [], _∷_, _++_, map}
+use mathlib.Core.Path.{_≡_, refl, sym, ap, ap₂, _∙_}
+use lib.Dec.{eqb}
+use lib.ListN.{length, length-map, getD, drop, List·getD-map}
+use Rattle.common.specs.Lists.{eachFrom}
+use Rattle.voter.specs.declared.Voter.{Voter}
+use Rattle.voter.specs.declared.Channels.the-variants.{All}
+use Rattle.voter.specs.Voting.{uncounted, voted, freshWith, valueOf}
+use Rattle.voter.specs.Items.{countDropped}
+use Rattle.voter.specs.Runs.{Reading, majority, heard, heardAll}
+use Rattle.voter.proofs.Laws.{value-is-of-the-majority}
+use Rattle.voter.proofs.Odd.{was-all}
+use Rattle.voter.proofs.InARow.{forgiven-bounces}
+use Rattle.controller.specs.declared.State.{State}
+use Rattle.controller.specs.declared.Core.{Core}
+use Rattle.controller.specs.declared.Answer.{Answer}
+use Rattle.controller.specs.Votes.{handle, sensor, threeFrom, someInvalid, sightOf, aimed, votesAt, allVoted}
+use Rattle.controller.specs.Stages.{coreStep, elapsedOf, turned, accepted}
+use Rattle.controller.specs.Steps.{refusalAt, refusalOf, stepAt, stepOf}
+use Rattle.controller.specs.Start.{freshOf, startedAt}
+use Rattle.controller.specs.Lamps.{greenOf, neitherAt, orangeOf, lightsOf, shownOf}
+use Rattle.controller.specs.Samples.{Row, answers, after}
+use Rattle.laws.specs.Times.{next}
+use Rattle.laws.specs.Bounces.{sensorAt, readingAt, readingsAt, AllQuiet}
+use Rattle.laws.proofs.Stages.{stages, coreStages}
+use Rattle.laws.proofs.Lifted.{coreOn, step-keeps, votes-length}
+use Rattle.laws.proofs.Bounces.{hears-the-accepted, fresh-is-quiet}
+use Rattle.image.specs.Images.{imageOf}
+use Rattle.image.specs.Counts.{countsDropped}
+use Rattle.image.proofs.Counts.{invalid-too, dropped-has-the-image}
+use Rattle.lesson.specs.Replay.{replayOf, resumedOf}
+use Rattle.lesson.proofs.Law.{replay-is-fresh}
+use Rattle.handing.specs.Handing.{imageLeft, savedOf}
+use Rattle.handing.proofs.Saving.{image-left}
+use Rattle.files.specs.Left.{leftOf}
+use Rattle.files.specs.Traces.{Body, Bears, bodyOf, fileOf, bodiesTo}
+use Rattle.files.proofs.Traces.{what-it-bears-is-answered, left-of-it, row-0-was-read}
+use Rattle.files.specs.Brushed.{SameButForBounces, Brushed, AllForgiven, butForCounts}
+
+-- ---- What votes say is not the counts
+
+dropped-says : (i : ℕ) (vs : List Voter) → sensor i (map countDropped vs) ≡ sensor i vs
+unfolding sensor valueOf freshWith
+dropped-says i vs = ap valueOf (List·getD-map countDropped vs i (freshWith false))
+
+dropped-seen : (vs : List Voter) → sightOf (map countDropped vs) ≡ sightOf vs
+unfolding sightOf threeFrom someInvalid
+dropped-seen vs = simp (dropped-says, invalid-too)
+
+-- ---- A vote
+
+-- Every channel of every sensor is valid.
+EachValid : List Voter → Type 0
+EachValid [] = Unit {0}
+EachValid (v ∷ vs) = (v .channels ≡ All) × EachValid vs
+
+same-heard : (v w : Voter) (r q : Reading) → majority r ≡ majority q → heard v r .channels ≡ All → heard w q .channels ≡ All
+    → countDropped (heard v r) ≡ countDropped (heard w q)
+unfolding valueOf
+same-heard v w r q same all other =
+    ap₂ uncounted (all ∙ sym other)
+    (value-is-of-the-majority v (was-all v r all) (r .0) (r .1) (r .2)
+    ∙ same
+    ∙ sym (value-is-of-the-majority w (was-all w q other) (q .0) (q .1) (q .2)))
+
+all-heard : (bytes others : List ℕ) → ((i : ℕ) → majority (readingAt i bytes) ≡ majority (readingAt i others))
+    → (k : ℕ) (vs ws : List Voter) → length vs ≡ length ws
+    → EachValid (eachFrom (votesAt bytes) k vs) → EachValid (eachFrom (votesAt others) k ws)
+    → map countDropped (eachFrom (votesAt bytes) k vs) ≡ map countDropped (eachFrom (votesAt others) k ws)
+unfolding eachFrom EachValid
+all-heard bytes others same k [] [] long all other = refl
+all-heard bytes others same k [] (w ∷ ws) long all other = absurd (omega arith)
+all-heard bytes others same k (v ∷ vs) [] long all other = absurd (omega arith)
+all-heard bytes others same k (v ∷ vs) (w ∷ ws) long all other =
+    ap₂ (λ (x : Voter) (xs : List Voter). x ∷ xs) (same-heard v w (readingAt k bytes) (readingAt k others) (same k) (all .0) (other .0))
+    (all-heard bytes others same (suc k) vs ws (omega arith) (all .1) (other .1))
+
+-- ---- Channels that are valid were valid
+
+valid-before-a-vote : (bytes : List ℕ) (k : ℕ) (vs : List Voter) → EachValid (eachFrom (votesAt bytes) k vs) → EachValid vs
+unfolding eachFrom EachValid
+valid-before-a-vote bytes k [] all = tt
+valid-before-a-vote bytes k (v ∷ vs) all = (was-all v (readingAt k bytes) (all .0), valid-before-a-vote bytes (suc k) vs (all .1))
+
+valid-before : (s : State) (rows : List Row) → EachValid (after s rows .voters) → EachValid (s .voters)
+unfolding after allVoted stages
+valid-before s [] all = all
+valid-before s (r ∷ rows) all =
+    step-keeps (λ (t : State). EachValid (t .voters) → EachValid (s .voters)) s (r .0) (r .1)
+    (valid-before-a-vote (r .1) 0 (s .voters)) (λ before. before)
+    (valid-before (next s r) rows all)
+
+-- ---- A step
+
+-- The core looks at votes without their counts.
+dropped-turned : (vs ws : List Voter) → turned (map countDropped vs) (map countDropped ws) ≡ turned vs ws
+unfolding turned
+dropped-turned vs ws = rw (dropped-says handle vs, dropped-says handle ws)
+
+dropped-aimed : (vs : List Voter) → aimed (map countDropped vs) ≡ aimed vs
+unfolding aimed
+dropped-aimed vs = rw (dropped-says handle vs)
+
+-- The core's step on votes without their counts.
+abbrev coreBy : ℕ → List Voter → List Voter → Core → Core
+coreBy elapsed vs votes c =
+    coreStep elapsed (turned (map countDropped vs) (map countDropped votes)) (aimed (map countDropped votes)) (sightOf (map countDropped votes)) c
+
+core-by : (s : State) (stamp : ℕ) (bytes : List ℕ) → coreOn s stamp bytes ≡ coreBy (elapsedOf (s .stamp) stamp) (s .voters) (allVoted bytes (s .voters)) (s .core)
+core-by s stamp bytes =
+    let votes : List Voter = allVoted bytes (s .voters) in
+    rw (dropped-turned (s .voters) votes, dropped-aimed votes, dropped-seen votes)
+
+dropped-accepted : (s : State) (stamp : ℕ) (bytes : List ℕ)
+    → countsDropped (accepted s stamp bytes) ≡ record { stamp = stamp; voters = map countDropped (allVoted bytes (s .voters)); core = coreOn s stamp bytes }
+unfolding stages coreStages countsDropped
+dropped-accepted s stamp bytes = refl
+
+module _
+    (s t : State) (a b : ℕ) (bytes others : List ℕ)
+    (alike : countsDropped s ≡ countsDropped t) (times : a ≡ b) (same : SameButForBounces bytes others) where
+  same-stamp : s .stamp ≡ t .stamp
+  unfolding countsDropped
+  same-stamp = ap (λ (u : State). u .stamp) alike
+
+  same-voters : map countDropped (s .voters) ≡ map countDropped (t .voters)
+  unfolding countsDropped
+  same-voters = ap (λ (u : State). u .voters) alike
+
+  same-core : s .core ≡ t .core
+  unfolding countsDropped
+  same-core = ap (λ (u : State). u .core) alike
+
+  same-refusal : refusalOf s a bytes ≡ refusalOf t b others
+  unfolding refusalAt
+  same-refusal = rw (same-stamp, times, same .long, same .over)
+
+  same-accepted : EachValid (accepted s a bytes .voters) → EachValid (accepted t b others .voters)
+      → countsDropped (accepted s a bytes) ≡ countsDropped (accepted t b others)
+  unfolding allVoted stages
+  same-accepted all other =
+      let long : length (s .voters) ≡ length (t .voters) =
+      sym (length-map (s .voters) countDropped) ∙ ap length same-voters ∙ length-map (t .voters) countDropped
+      in
+      let votes = all-heard bytes others (same .majorities) 0 (s .voters) (t .voters) long all other in
+      let core : coreOn s a bytes ≡ coreOn t b others =
+      core-by s a bytes ∙ rw (same-stamp, times, same-voters, votes, same-core) (sym (core-by t b others))
+      in
+      dropped-accepted s a bytes ∙ rw (core, votes, times) (sym (dropped-accepted t b others))
+
+  -- A step of both, where no channel is struck by it.
+  same-step : EachValid (stepOf s a bytes .state .voters) → EachValid (stepOf t b others .state .voters)
+      → butForCounts (stepOf s a bytes) ≡ butForCounts (stepOf t b others)
+  unfolding stepAt
+  same-step all other = cc (same-refusal, by (eqb (refusalOf t b others) 0) (rw same-refusal at all) other)
+    where
+      by : (isTaken : Bool)
+          → EachValid (cond isTaken (accepted s a bytes) s .voters)
+          → EachValid (cond isTaken (accepted t b others) t .voters)
+          → countsDropped (cond isTaken (accepted s a bytes) s) ≡ countsDropped (cond isTaken (accepted t b others) t)
+      by true all other = same-accepted all other
+      by false all other = alike
+
+-- ---- A whole lesson
+
+all-the-same : (s t : State) (rows others : List Row) → countsDropped s ≡ countsDropped t → Brushed rows others
+    → EachValid (after s rows .voters) → EachValid (after t others .voters)
+    → (map butForCounts (answers s rows) ≡ map butForCounts (answers t others)) ×
+    (countsDropped (after s rows) ≡ countsDropped (after t others))
+unfolding Brushed answers after
+all-the-same s t [] [] alike brushed all other = (refl, alike)
+all-the-same s t [] (q ∷ qs) alike brushed all other = absurd brushed
+all-the-same s t (r ∷ rs) [] alike brushed all other = absurd brushed
+all-the-same s t (r ∷ rs) (q ∷ qs) alike brushed all other =
+    let first =
+    same-step s t (r .0) (q .0) (r .1) (q .1) alike (brushed .0) (brushed .1)
+    (valid-before (next s r) rs all) (valid-before (next t q) qs other)
+    in
+    let more = all-the-same (next s r) (next t q) rs qs (ap (λ (a : Answer). a .state) first) (brushed .2) all other in
+    (cc (first, more .0), more .1)
+
+-- Where every bounce is forgiven all channels are valid to the end.
+each-valid : (vs : List Voter) → ((i : ℕ) → i < length vs → getD vs i (freshWith false) .channels ≡ All) → EachValid vs
+unfolding EachValid
+each-valid [] all = tt
+each-valid (v ∷ vs) all = (all 0 (omega arith), each-valid vs (λ i h. all (suc i) (omega arith)))
+
+as-many : (s : State) (rows : List Row) → length (after s rows .voters) ≡ length (s .voters)
+unfolding after stages
+as-many s [] = refl
+as-many s (r ∷ rows) =
+    as-many (next s r) rows ∙
+    step-keeps (λ (t : State). length (t .voters) ≡ length (s .voters)) s (r .0) (r .1) (votes-length (r .1) (s .voters)) refl
+
+forgiven-is-valid : (s : State) → AllQuiet s → (rows : List Row) → AllForgiven s rows → EachValid (after s rows .voters)
+forgiven-is-valid s quiet rows forgiven =
+    each-valid (after s rows .voters)
+    (λ i h.
+    let within : i < length (s .voters) = omega (arith, as-many s rows) in
+    ap (λ (v : Voter). v .channels) (hears-the-accepted i s within rows) ∙
+    forgiven-bounces (sensorAt i s) (quiet i within .0) (quiet i within .1) (readingsAt i s rows) (forgiven i within))
+
+module _
+    (s : State) (quiet : AllQuiet s) (rows others : List Row) (brushed : Brushed rows others)
+    (forgiven : AllForgiven s rows) (otherForgiven : AllForgiven s others) where
+  both : (map butForCounts (answers s rows) ≡ map butForCounts (answers s others)) ×
+      (countsDropped (after s rows) ≡ countsDropped (after s others))
+  both = all-the-same s s rows others refl brushed (forgiven-is-valid s quiet rows forgiven) (forgiven-is-valid s quiet others otherForgiven)
+
+  -- The answers are the same but for the counts, from the first sample to the last, ..
+  pub brushed-answers-the-same : map butForCounts (answers s rows) ≡ map butForCounts (answers s others)
+  brushed-answers-the-same = both .0
+
+  -- .. and the image of what is left is the same.
+  pub brushed-leaves-the-image : imageOf (after s rows) ≡ imageOf (after s others)
+  brushed-leaves-the-image =
+      sym (dropped-has-the-image (after s rows)) ∙ ap imageOf (both .1) ∙ dropped-has-the-image (after s others)
+
+-- ---- Whole files
+
+-- What a row shows is not the counts.
+dropped-shows : (s : State) → shownOf (countsDropped s) ≡ shownOf s
+unfolding shownOf lightsOf greenOf orangeOf neitherAt threeFrom countsDropped
+dropped-shows s = simp dropped-says
+
+shows-the-same : (answers : List Answer) → map bodyOf answers ≡ map bodyOf (map butForCounts answers)
+shows-the-same [] = refl
+shows-the-same (a ∷ more) = cc (dropped-shows (a .state), shows-the-same more)
+
+-- Two inputs that bear a lesson and the same lesson brushed, with any row 0 of the same stamp, and end in the same way: from a controller at
+-- which all channels are valid and no count runs their rows are the same bytes, and so are their images.
+module _
+    (s : State) (quiet : AllQuiet s)
+    (start again : Row) (rows others : List Row) (times : start .0 ≡ again .0) (brushed : Brushed rows others)
+    (forgiven : AllForgiven (startedAt (start .0) s) rows) (otherForgiven : AllForgiven (startedAt (start .0) s) others)
+    (input other ending : List ℕ) (bears : Bears input (start ∷ rows) ending) (otherBears : Bears other (again ∷ others) ending) where
+  abbrev from : State
+  from = startedAt (start .0) s
+
+  still-quiet : AllQuiet from
+  unfolding startedAt
+  still-quiet = quiet
+
+  same-bodies : bodiesTo s (start ∷ rows) ≡ bodiesTo s (again ∷ others)
+  same-bodies =
+      rw (← times)
+      (ap (λ (bs : List Body). (0, shownOf from) ∷ bs)
+      (shows-the-same (answers from rows)
+      ∙ ap (map bodyOf) (brushed-answers-the-same from still-quiet rows others brushed forgiven otherForgiven)
+      ∙ sym (shows-the-same (answers from others))))
+
+  pub brushed-file : resumedOf s input ≡ resumedOf s other
+  brushed-file =
+      what-it-bears-is-answered s input (start ∷ rows) ending bears
+      ∙ ap (λ (bs : List Body). fileOf bs ++ ending) same-bodies
+      ∙ sym (what-it-bears-is-answered s other (again ∷ others) ending otherBears)
+
+  pub brushed-image : savedOf s input ≡ savedOf s other
+  unfolding savedOf
+  brushed-image =
+      image-left (leftOf s input) (row-0-was-read s input start rows ending bears)
+      ∙ ap imageOf (left-of-it s input start rows ending bears)
+      ∙ brushed-leaves-the-image from still-quiet rows others brushed forgiven otherForgiven
+      ∙ sym
+      (image-left (leftOf s other) (row-0-was-read s other again others ending otherBears)
+      ∙ ap imageOf (left-of-it s other again others ending otherBears ∙ ap (λ (stamp : ℕ). after (startedAt stamp s) others) (sym times)))
+
+-- So of `replay`, and of what `save` writes, from a fresh start.
+pub brushed-replay :
+    (start again : Row) (rows others : List Row) → start .0 ≡ again .0 → Brushed rows others
+    → AllForgiven (startedAt (start .0) (freshOf 0)) rows → AllForgiven (startedAt (start .0) (freshOf 0)) others
+    → (input other ending : List ℕ) → Bears input (start ∷ rows) ending → Bears other (again ∷ others) ending
+    → (replayOf input ≡ replayOf other) × (savedOf (freshOf 0) input ≡ savedOf (freshOf 0) other)
+brushed-replay start again rows others times brushed forgiven otherForgiven input other ending bears otherBears = (
+  replay-is-fresh input
+      ∙ brushed-file (freshOf 0) (fresh-is-quiet 0) start again rows others times brushed forgiven otherForgiven input other ending bears otherBears
+      ∙ sym (replay-is-fresh other),
+  brushed-image (freshOf 0) (fresh-is-quiet 0) start again rows others times brushed forgiven otherForgiven input other ending bears otherBears,
+)

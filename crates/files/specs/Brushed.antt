@@ -1,0 +1,36 @@
+-- Request K5, "Students brush the harness all day": a lesson and the same lesson brushed. Bounces that are forgiven leave nothing behind but
+-- the counts, which no row, no dump and no image shows.
+-- Assumes nothing.
+use Prim.Native.Nat.{ℕ, _<_}
+use mathlib.Core.List.{List, [], _∷_}
+use mathlib.Core.Path.{_≡_}
+use lib.ListN.{length}
+use Rattle.voter.specs.Runs.{majority, ThreeInARow}
+use Rattle.controller.specs.declared.State.{State}
+use Rattle.controller.specs.declared.Answer.{Answer}
+use Rattle.controller.specs.Steps.{someOverOne}
+use Rattle.controller.specs.Samples.{Row}
+use Rattle.image.specs.Counts.{countsDropped}
+use Rattle.laws.specs.Bounces.{sensorAt, readingAt, readingsAt}
+
+-- Two samples are the same but for bounces: at each sensor the majority says the same. Both are as long, and a byte of both is over 1 or of
+-- none.
+pub record SameButForBounces (sample other : List ℕ) : Type 0 where
+  pub long : length sample ≡ length other
+  pub over : someOverOne sample ≡ someOverOne other
+  pub majorities : (i : ℕ) → majority (readingAt i sample) ≡ majority (readingAt i other)
+
+-- Two lists of rows are: as many on both sides, with equal stamps and such samples.
+unfoldable pub Brushed : List Row → List Row → Type 0
+Brushed [] [] = Unit {0}
+Brushed [] (q ∷ qs) = ⊥
+Brushed (r ∷ rs) [] = ⊥
+Brushed (r ∷ rs) (q ∷ qs) = (r .0 ≡ q .0) × SameButForBounces (r .1) (q .1) × Brushed rs qs
+
+-- Every bounce is forgiven: at no sensor three accepted samples in a row have the same channel as the odd one.
+abbrev pub AllForgiven : State → List Row → Type 0
+AllForgiven s rows = (i : ℕ) → i < length (s .voters) → (k : ℕ) → ThreeInARow k (sensorAt i s) (readingsAt i s rows) → ⊥
+
+-- An answer but for the counts.
+abbrev pub butForCounts : Answer → Answer
+butForCounts a = record { refusal = a .refusal; state = countsDropped (a .state) }
