@@ -1,19 +1,19 @@
 -- A lesson that is brushed, every bounce forgiven, gets the answers of the clean one but for the counts (request K5); so its rows and its image
 -- are the same bytes.
 -- Assumes nothing.
-use Prim.Native.Nat.{ℕ, zero, suc, _+_, _<_}
+use Prim.Native.Nat.{ℕ, suc, _+_, _<_}
 use native.Mathlib.Omega.{arith}
 use mathlib.Core.Bool.{Bool, true, false, cond}
 use mathlib.Core.List.{List, [], _∷_, _++_, map}
 use mathlib.Core.Path.{_≡_, refl, sym, ap, ap₂, _∙_}
 use lib.Dec.{eqb}
-use lib.ListN.{length, length-map, getD, drop, List·getD-map}
+use lib.ListN.{length, length-map, getD, List·getD-map}
 use Rattle.common.specs.Lists.{eachFrom}
 use Rattle.voter.specs.declared.Voter.{Voter}
 use Rattle.voter.specs.declared.Channels.the-variants.{All}
-use Rattle.voter.specs.Voting.{uncounted, voted, freshWith, valueOf}
+use Rattle.voter.specs.Voting.{uncounted, freshWith, valueOf}
 use Rattle.voter.specs.Items.{countDropped}
-use Rattle.voter.specs.Runs.{Reading, majority, heard, heardAll}
+use Rattle.voter.specs.Runs.{Reading, majority, heard}
 use Rattle.voter.proofs.Laws.{value-is-of-the-majority}
 use Rattle.voter.proofs.Odd.{was-all}
 use Rattle.voter.proofs.InARow.{forgiven-bounces}
@@ -23,20 +23,19 @@ use Rattle.controller.specs.declared.Answer.{Answer}
 use Rattle.controller.specs.Votes.{handle, sensor, threeFrom, someInvalid, sightOf, aimed, votesAt, allVoted}
 use Rattle.controller.specs.Stages.{coreStep, elapsedOf, turned, accepted}
 use Rattle.controller.specs.Steps.{refusalAt, refusalOf, stepAt, stepOf}
-use Rattle.controller.specs.Start.{freshOf, startedAt}
+use Rattle.controller.specs.Start.{startedAt}
 use Rattle.controller.specs.Lamps.{greenOf, neitherAt, orangeOf, lightsOf, shownOf}
 use Rattle.controller.specs.Samples.{Row, answers, after}
 use Rattle.laws.specs.Times.{next}
 use Rattle.laws.specs.Bounces.{sensorAt, readingAt, readingsAt, AllQuiet}
 use Rattle.laws.proofs.Stages.{stages, coreStages}
 use Rattle.laws.proofs.Lifted.{coreOn, step-keeps, votes-length}
-use Rattle.laws.proofs.Bounces.{hears-the-accepted, fresh-is-quiet}
+use Rattle.laws.proofs.Bounces.{hears-the-accepted}
 use Rattle.image.specs.Images.{imageOf}
 use Rattle.image.specs.Counts.{countsDropped}
 use Rattle.image.proofs.Counts.{invalid-too, dropped-has-the-image}
-use Rattle.lesson.specs.Replay.{replayOf, resumedOf}
-use Rattle.lesson.proofs.Law.{replay-is-fresh}
-use Rattle.handing.specs.Handing.{imageLeft, savedOf}
+use Rattle.lesson.specs.Replay.{resumedOf}
+use Rattle.handing.specs.Handing.{savedOf}
 use Rattle.handing.proofs.Saving.{image-left}
 use Rattle.files.specs.Left.{leftOf}
 use Rattle.files.specs.Traces.{Body, Bears, bodyOf, fileOf, bodiesTo}
@@ -45,7 +44,7 @@ use Rattle.files.specs.Brushed.{SameButForBounces, Brushed, AllForgiven,
 
 -- ---- What votes say is not the counts
 
-dropped-says : (i : ℕ) (vs : List Voter) → sensor i (map countDropped vs) ≡ sensor i vs
+pub dropped-says : (i : ℕ) (vs : List Voter) → sensor i (map countDropped vs) ≡ sensor i vs
 unfolding sensor valueOf freshWith
 dropped-says i vs = ap valueOf (List·getD-map countDropped vs i (freshWith false))
 
@@ -56,7 +55,7 @@ dropped-seen vs = simp (dropped-says, invalid-too)
 -- ---- A vote
 
 -- Every channel of every sensor is valid.
-EachValid : List Voter → Type 0
+pub EachValid : List Voter → Type 0
 EachValid [] = Unit {0}
 EachValid (v ∷ vs) = (v .channels ≡ All) × EachValid vs
 
@@ -88,7 +87,7 @@ unfolding eachFrom EachValid
 valid-before-a-vote bytes k [] all = tt
 valid-before-a-vote bytes k (v ∷ vs) all = (was-all v (readingAt k bytes) (all .0), valid-before-a-vote bytes (suc k) vs (all .1))
 
-valid-before : (s : State) (rows : List Row) → EachValid (after s rows .voters) → EachValid (s .voters)
+pub valid-before : (s : State) (rows : List Row) → EachValid (after s rows .voters) → EachValid (s .voters)
 unfolding after allVoted stages
 valid-before s [] all = all
 valid-before s (r ∷ rows) all =
@@ -155,7 +154,7 @@ module _
       dropped-accepted s a bytes ∙ rw (core, votes, times) (sym (dropped-accepted t b others))
 
   -- A step of both, where no channel is struck by it.
-  same-step : EachValid (stepOf s a bytes .state .voters) → EachValid (stepOf t b others .state .voters)
+  pub same-step : EachValid (stepOf s a bytes .state .voters) → EachValid (stepOf t b others .state .voters)
       → butForCounts (stepOf s a bytes) ≡ butForCounts (stepOf t b others)
   unfolding stepAt
   same-step all other = cc (same-refusal, by (eqb (refusalOf t b others) 0) (rw same-refusal at all) other)
@@ -198,7 +197,7 @@ as-many s (r ∷ rows) =
     as-many (next s r) rows ∙
     step-keeps (λ (t : State). length (t .voters) ≡ length (s .voters)) s (r .0) (r .1) (votes-length (r .1) (s .voters)) refl
 
-forgiven-is-valid : (s : State) → AllQuiet s → (rows : List Row) → AllForgiven s rows → EachValid (after s rows .voters)
+pub forgiven-is-valid : (s : State) → AllQuiet s → (rows : List Row) → AllForgiven s rows → EachValid (after s rows .voters)
 forgiven-is-valid s quiet rows forgiven =
     each-valid (after s rows .voters)
     (λ i h.
@@ -225,7 +224,7 @@ module _
 -- ---- Whole files
 
 -- What a row shows is not the counts.
-dropped-shows : (s : State) → shownOf (countsDropped s) ≡ shownOf s
+pub dropped-shows : (s : State) → shownOf (countsDropped s) ≡ shownOf s
 unfolding shownOf lightsOf greenOf orangeOf neitherAt threeFrom countsDropped
 dropped-shows s = simp dropped-says
 
@@ -234,7 +233,7 @@ shows-the-same [] = refl
 shows-the-same (a ∷ more) = cc (dropped-shows (a .state), shows-the-same more)
 
 -- Two inputs that bear a lesson and the same lesson brushed, with any row 0 of the same stamp, and end in the same way: from a controller at
--- which all channels are valid and no count runs their rows are the same bytes, and so are their images.
+-- which all channels are valid and every count is 0 their rows are the same bytes, and so are their images.
 module _
     (s : State) (quiet : AllQuiet s)
     (start again : Row) (rows others : List Row) (times : start .0 ≡ again .0) (brushed : Brushed rows others)
@@ -243,7 +242,7 @@ module _
   abbrev from : State
   from = startedAt (start .0) s
 
-  still-quiet : AllQuiet from
+  pub still-quiet : AllQuiet from
   unfolding startedAt
   still-quiet = quiet
 
@@ -270,16 +269,3 @@ module _
       ∙ sym
       (image-left (leftOf s other) (row-0-was-read s other again others ending otherBears)
       ∙ ap imageOf (left-of-it s other again others ending otherBears ∙ ap (λ (stamp : ℕ). after (startedAt stamp s) others) (sym times)))
-
--- So of `replay`, and of what `save` writes, from a fresh start.
-pub brushed-replay :
-    (start again : Row) (rows others : List Row) → start .0 ≡ again .0 → Brushed rows others
-    → AllForgiven (startedAt (start .0) (freshOf 0)) rows → AllForgiven (startedAt (start .0) (freshOf 0)) others
-    → (input other ending : List ℕ) → Bears input (start ∷ rows) ending → Bears other (again ∷ others) ending
-    → (replayOf input ≡ replayOf other) × (savedOf (freshOf 0) input ≡ savedOf (freshOf 0) other)
-brushed-replay start again rows others times brushed forgiven otherForgiven input other ending bears otherBears = (
-  replay-is-fresh input
-      ∙ brushed-file (freshOf 0) (fresh-is-quiet 0) start again rows others times brushed forgiven otherForgiven input other ending bears otherBears
-      ∙ sym (replay-is-fresh other),
-  brushed-image (freshOf 0) (fresh-is-quiet 0) start again rows others times brushed forgiven otherForgiven input other ending bears otherBears,
-)

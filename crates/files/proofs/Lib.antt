@@ -13,5 +13,6 @@ pub mod Traces
 pub mod Accounts
 pub mod Cut
 pub mod Brushed
+pub mod BrushedDumps
 pub mod Tables
 pub mod WorstFile

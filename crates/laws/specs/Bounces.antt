@@ -1,6 +1,6 @@
 -- Request K5 over the controller's run, "the third accepted sample in a row": what a sensor hears. A refused sample neither adds nor resets.
 -- Assumes nothing.
-use mathlib.Core.Bool.{Bool, false, cond}
+use mathlib.Core.Bool.{false, cond}
 use mathlib.Core.List.{List, [], _∷_}
 use mathlib.Core.Path.{_≡_}
 use Prim.Native.Nat.{ℕ, _+_, _*_, _<_}
