@@ -1,7 +1,7 @@
 -- A lesson that is brushed, every bounce forgiven, gets the answers of the clean one but for the counts (request K5); so its rows and its image
 -- are the same bytes.
 -- Assumes nothing.
-use Prim.Native.Nat.{ℕ, suc, _+_, _<_}
+use Prim.Native.Nat.{ℕ, suc, _+_, _≤_, _<_}
 use native.Mathlib.Omega.{arith}
 use mathlib.Core.Bool.{Bool, true, false, cond}
 use mathlib.Core.List.{List, [], _∷_, _++_, map}
@@ -14,9 +14,9 @@ use Rattle.voter.specs.declared.Channels.the-variants.{All}
 use Rattle.voter.specs.Voting.{uncounted, freshWith, valueOf}
 use Rattle.voter.specs.Items.{countDropped}
 use Rattle.voter.specs.Runs.{Reading, majority, heard}
-use Rattle.voter.proofs.Laws.{value-is-of-the-majority}
-use Rattle.voter.proofs.Odd.{was-all}
-use Rattle.voter.proofs.InARow.{forgiven-bounces}
+use Rattle.voter.proofs.Laws.{all-were-valid, value-is-of-the-majority}
+use Rattle.voter.proofs.Mirrors.{fresh-loses-nothing, dropped-has-the-value}
+use Rattle.voter.proofs.InARow.{all-valid-exactly}
 use Rattle.controller.specs.declared.State.{State}
 use Rattle.controller.specs.declared.Core.{Core}
 use Rattle.controller.specs.declared.Answer.{Answer}
@@ -26,11 +26,14 @@ use Rattle.controller.specs.Steps.{refusalAt, refusalOf, stepAt, stepOf}
 use Rattle.controller.specs.Start.{startedAt}
 use Rattle.controller.specs.Lamps.{greenOf, neitherAt, orangeOf, lightsOf, shownOf}
 use Rattle.controller.specs.Samples.{Row, answers, after}
+use Rattle.laws.specs.Reached.{Reached}
+use Rattle.laws.specs.Reached.Reached.{started}
 use Rattle.laws.specs.Times.{next}
 use Rattle.laws.specs.Bounces.{sensorAt, readingAt, readingsAt, AllQuiet}
 use Rattle.laws.proofs.Stages.{stages, coreStages}
-use Rattle.laws.proofs.Lifted.{coreOn, step-keeps, votes-length}
-use Rattle.laws.proofs.Bounces.{hears-the-accepted}
+use Rattle.laws.proofs.Lifted.{coreOn, step-keeps, votes-length, reached-is-allowed}
+use Rattle.laws.proofs.Bounces.{Each, each-at-index, each-by-index, hears-the-accepted}
+use Rattle.image.specs.Items.{sensorCount}
 use Rattle.image.specs.Images.{imageOf}
 use Rattle.image.specs.Counts.{countsDropped}
 use Rattle.image.proofs.Counts.{invalid-too, dropped-has-the-image}
@@ -45,8 +48,11 @@ use Rattle.files.specs.Brushed.{SameButForBounces, Brushed, AllForgiven,
 -- ---- What votes say is not the counts
 
 pub dropped-says : (i : ℕ) (vs : List Voter) → sensor i (map countDropped vs) ≡ sensor i vs
-unfolding sensor valueOf freshWith
-dropped-says i vs = ap valueOf (List·getD-map countDropped vs i (freshWith false))
+unfolding sensor
+dropped-says i vs =
+    ap (λ (d : Voter). valueOf (getD (map countDropped vs) i d)) (sym (fresh-loses-nothing false))
+    ∙ ap valueOf (List·getD-map countDropped vs i (freshWith false))
+    ∙ dropped-has-the-value (getD vs i (freshWith false))
 
 dropped-seen : (vs : List Voter) → sightOf (map countDropped vs) ≡ sightOf vs
 unfolding sightOf threeFrom someInvalid
@@ -55,37 +61,35 @@ dropped-seen vs = simp (dropped-says, invalid-too)
 -- ---- A vote
 
 -- Every channel of every sensor is valid.
-pub EachValid : List Voter → Type 0
-EachValid [] = Unit {0}
-EachValid (v ∷ vs) = (v .channels ≡ All) × EachValid vs
+abbrev pub EachValid : List Voter → Type 0
+EachValid = Each (λ (v : Voter). v .channels ≡ All)
 
 same-heard : (v w : Voter) (r q : Reading) → majority r ≡ majority q → heard v r .channels ≡ All → heard w q .channels ≡ All
     → countDropped (heard v r) ≡ countDropped (heard w q)
-unfolding valueOf
 same-heard v w r q same all other =
     ap₂ uncounted (all ∙ sym other)
-    (value-is-of-the-majority v (was-all v r all) (r .0) (r .1) (r .2)
+    (value-is-of-the-majority v (all-were-valid v (r .0) (r .1) (r .2) all) (r .0) (r .1) (r .2)
     ∙ same
-    ∙ sym (value-is-of-the-majority w (was-all w q other) (q .0) (q .1) (q .2)))
+    ∙ sym (value-is-of-the-majority w (all-were-valid w (q .0) (q .1) (q .2) other) (q .0) (q .1) (q .2)))
 
-all-heard : (bytes others : List ℕ) → ((i : ℕ) → majority (readingAt i bytes) ≡ majority (readingAt i others))
-    → (k : ℕ) (vs ws : List Voter) → length vs ≡ length ws
+all-heard : (bytes others : List ℕ) → ((i : ℕ) → i < sensorCount → majority (readingAt i bytes) ≡ majority (readingAt i others))
+    → (k : ℕ) (vs ws : List Voter) → k + length vs ≤ sensorCount → length vs ≡ length ws
     → EachValid (eachFrom (votesAt bytes) k vs) → EachValid (eachFrom (votesAt others) k ws)
     → map countDropped (eachFrom (votesAt bytes) k vs) ≡ map countDropped (eachFrom (votesAt others) k ws)
-unfolding eachFrom EachValid
-all-heard bytes others same k [] [] long all other = refl
-all-heard bytes others same k [] (w ∷ ws) long all other = absurd (omega arith)
-all-heard bytes others same k (v ∷ vs) [] long all other = absurd (omega arith)
-all-heard bytes others same k (v ∷ vs) (w ∷ ws) long all other =
-    ap₂ (λ (x : Voter) (xs : List Voter). x ∷ xs) (same-heard v w (readingAt k bytes) (readingAt k others) (same k) (all .0) (other .0))
-    (all-heard bytes others same (suc k) vs ws (omega arith) (all .1) (other .1))
+unfolding eachFrom Each
+all-heard bytes others same k [] [] some long all other = refl
+all-heard bytes others same k [] (w ∷ ws) some long all other = absurd (omega arith)
+all-heard bytes others same k (v ∷ vs) [] some long all other = absurd (omega arith)
+all-heard bytes others same k (v ∷ vs) (w ∷ ws) some long all other =
+    ap₂ (λ (x : Voter) (xs : List Voter). x ∷ xs) (same-heard v w (readingAt k bytes) (readingAt k others) (same k (omega arith)) (all .0) (other .0))
+    (all-heard bytes others same (suc k) vs ws (omega arith) (omega arith) (all .1) (other .1))
 
 -- ---- Channels that are valid were valid
 
 valid-before-a-vote : (bytes : List ℕ) (k : ℕ) (vs : List Voter) → EachValid (eachFrom (votesAt bytes) k vs) → EachValid vs
-unfolding eachFrom EachValid
+unfolding eachFrom Each
 valid-before-a-vote bytes k [] all = tt
-valid-before-a-vote bytes k (v ∷ vs) all = (was-all v (readingAt k bytes) (all .0), valid-before-a-vote bytes (suc k) vs (all .1))
+valid-before-a-vote bytes k (v ∷ vs) all = (all-were-valid v _ _ _ (all .0), valid-before-a-vote bytes (suc k) vs (all .1))
 
 pub valid-before : (s : State) (rows : List Row) → EachValid (after s rows .voters) → EachValid (s .voters)
 unfolding after allVoted stages
@@ -123,6 +127,7 @@ dropped-accepted s stamp bytes = refl
 
 module _
     (s t : State) (a b : ℕ) (bytes others : List ℕ)
+    (eighteen : length (s .voters) ≡ sensorCount)
     (alike : countsDropped s ≡ countsDropped t) (times : a ≡ b) (same : SameButForBounces bytes others) where
   same-stamp : s .stamp ≡ t .stamp
   unfolding countsDropped
@@ -147,7 +152,7 @@ module _
       let long : length (s .voters) ≡ length (t .voters) =
       sym (length-map (s .voters) countDropped) ∙ ap length same-voters ∙ length-map (t .voters) countDropped
       in
-      let votes = all-heard bytes others (same .majorities) 0 (s .voters) (t .voters) long all other in
+      let votes = all-heard bytes others (same .majorities) 0 (s .voters) (t .voters) (omega arith) long all other in
       let core : coreOn s a bytes ≡ coreOn t b others =
       core-by s a bytes ∙ rw (same-stamp, times, same-voters, votes, same-core) (sym (core-by t b others))
       in
@@ -168,49 +173,52 @@ module _
 
 -- ---- A whole lesson
 
-all-the-same : (s t : State) (rows others : List Row) → countsDropped s ≡ countsDropped t → Brushed rows others
-    → EachValid (after s rows .voters) → EachValid (after t others .voters)
-    → (map butForCounts (answers s rows) ≡ map butForCounts (answers t others)) ×
-    (countsDropped (after s rows) ≡ countsDropped (after t others))
-unfolding Brushed answers after
-all-the-same s t [] [] alike brushed all other = (refl, alike)
-all-the-same s t [] (q ∷ qs) alike brushed all other = absurd brushed
-all-the-same s t (r ∷ rs) [] alike brushed all other = absurd brushed
-all-the-same s t (r ∷ rs) (q ∷ qs) alike brushed all other =
-    let first =
-    same-step s t (r .0) (q .0) (r .1) (q .1) alike (brushed .0) (brushed .1)
-    (valid-before (next s r) rs all) (valid-before (next t q) qs other)
-    in
-    let more = all-the-same (next s r) (next t q) rs qs (ap (λ (a : Answer). a .state) first) (brushed .2) all other in
-    (cc (first, more .0), more .1)
-
--- Where every bounce is forgiven all channels are valid to the end.
-each-valid : (vs : List Voter) → ((i : ℕ) → i < length vs → getD vs i (freshWith false) .channels ≡ All) → EachValid vs
-unfolding EachValid
-each-valid [] all = tt
-each-valid (v ∷ vs) all = (all 0 (omega arith), each-valid vs (λ i h. all (suc i) (omega arith)))
-
-as-many : (s : State) (rows : List Row) → length (after s rows .voters) ≡ length (s .voters)
+-- There are as many sensors after any samples.
+pub as-many : (s : State) (rows : List Row) → length (after s rows .voters) ≡ length (s .voters)
 unfolding after stages
 as-many s [] = refl
 as-many s (r ∷ rows) =
     as-many (next s r) rows ∙
     step-keeps (λ (t : State). length (t .voters) ≡ length (s .voters)) s (r .0) (r .1) (votes-length (r .1) (s .voters)) refl
 
+all-the-same : (s t : State) (rows others : List Row) → length (s .voters) ≡ sensorCount → countsDropped s ≡ countsDropped t → Brushed rows others
+    → EachValid (after s rows .voters) → EachValid (after t others .voters)
+    → (map butForCounts (answers s rows) ≡ map butForCounts (answers t others)) ×
+    (countsDropped (after s rows) ≡ countsDropped (after t others))
+unfolding Brushed answers after
+all-the-same s t [] [] eighteen alike brushed all other = (refl, alike)
+all-the-same s t [] (q ∷ qs) eighteen alike brushed all other = absurd brushed
+all-the-same s t (r ∷ rs) [] eighteen alike brushed all other = absurd brushed
+all-the-same s t (r ∷ rs) (q ∷ qs) eighteen alike brushed all other =
+    let first =
+    same-step s t (r .0) (q .0) (r .1) (q .1) eighteen alike (brushed .0) (brushed .1)
+    (valid-before (next s r) rs all) (valid-before (next t q) qs other)
+    in
+    let more = all-the-same (next s r) (next t q) rs qs (as-many s (r ∷ []) ∙ eighteen) (ap (λ (a : Answer). a .state) first) (brushed .2) all other in
+    (cc (first, more .0), more .1)
+
+-- Where every bounce is forgiven all channels are valid to the end.
 pub forgiven-is-valid : (s : State) → AllQuiet s → (rows : List Row) → AllForgiven s rows → EachValid (after s rows .voters)
 forgiven-is-valid s quiet rows forgiven =
-    each-valid (after s rows .voters)
+    each-by-index (λ (v : Voter). v .channels ≡ All) (after s rows .voters)
     (λ i h.
     let within : i < length (s .voters) = omega (arith, as-many s rows) in
     ap (λ (v : Voter). v .channels) (hears-the-accepted i s within rows) ∙
-    forgiven-bounces (sensorAt i s) (quiet i within .0) (quiet i within .1) (readingsAt i s rows) (forgiven i within))
+    all-valid-exactly (sensorAt i s) (quiet i within .0) (quiet i within .1) (readingsAt i s rows) .1 (forgiven i within))
+
+-- And where they are every bounce was.
+pub valid-is-forgiven : (s : State) → AllQuiet s → (rows : List Row) → EachValid (after s rows .voters) → AllForgiven s rows
+valid-is-forgiven s quiet rows all i within =
+    all-valid-exactly (sensorAt i s) (quiet i within .0) (quiet i within .1) (readingsAt i s rows) .0
+    (ap (λ (v : Voter). v .channels) (sym (hears-the-accepted i s within rows)) ∙
+    each-at-index (λ (v : Voter). v .channels ≡ All) (after s rows .voters) all i (omega (arith, as-many s rows)))
 
 module _
-    (s : State) (quiet : AllQuiet s) (rows others : List Row) (brushed : Brushed rows others)
+    (s : State) (reached : Reached s) (quiet : AllQuiet s) (rows others : List Row) (brushed : Brushed rows others)
     (forgiven : AllForgiven s rows) (otherForgiven : AllForgiven s others) where
   both : (map butForCounts (answers s rows) ≡ map butForCounts (answers s others)) ×
       (countsDropped (after s rows) ≡ countsDropped (after s others))
-  both = all-the-same s s rows others refl brushed (forgiven-is-valid s quiet rows forgiven) (forgiven-is-valid s quiet others otherForgiven)
+  both = all-the-same s s rows others (reached-is-allowed s reached .sensors) refl brushed (forgiven-is-valid s quiet rows forgiven) (forgiven-is-valid s quiet others otherForgiven)
 
   -- The answers are the same but for the counts, from the first sample to the last, ..
   pub brushed-answers-the-same : map butForCounts (answers s rows) ≡ map butForCounts (answers s others)
@@ -232,10 +240,10 @@ shows-the-same : (answers : List Answer) → map bodyOf answers ≡ map bodyOf (
 shows-the-same [] = refl
 shows-the-same (a ∷ more) = cc (dropped-shows (a .state), shows-the-same more)
 
--- Two inputs that bear a lesson and the same lesson brushed, with any row 0 of the same stamp, and end in the same way: from a controller at
--- which all channels are valid and every count is 0 their rows are the same bytes, and so are their images.
+-- Two inputs that bear a lesson and the same lesson brushed, with any row 0 of the same stamp, and end in the same way: from a reached
+-- controller at which all channels are valid and every count is 0 their rows are the same bytes, and so are their images.
 module _
-    (s : State) (quiet : AllQuiet s)
+    (s : State) (reached : Reached s) (quiet : AllQuiet s)
     (start again : Row) (rows others : List Row) (times : start .0 ≡ again .0) (brushed : Brushed rows others)
     (forgiven : AllForgiven (startedAt (start .0) s) rows) (otherForgiven : AllForgiven (startedAt (start .0) s) others)
     (input other ending : List ℕ) (bears : Bears input (start ∷ rows) ending) (otherBears : Bears other (again ∷ others) ending) where
@@ -251,7 +259,7 @@ module _
       rw (← times)
       (ap (λ (bs : List Body). (0, shownOf from) ∷ bs)
       (shows-the-same (answers from rows)
-      ∙ ap (map bodyOf) (brushed-answers-the-same from still-quiet rows others brushed forgiven otherForgiven)
+      ∙ ap (map bodyOf) (brushed-answers-the-same from (started reached (start .0)) still-quiet rows others brushed forgiven otherForgiven)
       ∙ sym (shows-the-same (answers from others))))
 
   pub brushed-file : resumedOf s input ≡ resumedOf s other
@@ -265,7 +273,7 @@ module _
   brushed-image =
       image-left (leftOf s input) (row-0-was-read s input start rows ending bears)
       ∙ ap imageOf (left-of-it s input start rows ending bears)
-      ∙ brushed-leaves-the-image from still-quiet rows others brushed forgiven otherForgiven
+      ∙ brushed-leaves-the-image from (started reached (start .0)) still-quiet rows others brushed forgiven otherForgiven
       ∙ sym
       (image-left (leftOf s other) (row-0-was-read s other again others ending otherBears)
       ∙ ap imageOf (left-of-it s other again others ending otherBears ∙ ap (λ (stamp : ℕ). after (startedAt stamp s) others) (sym times)))

@@ -22,8 +22,12 @@ use Rattle.controller.specs.Stages.{elapsedOf}
 use Rattle.controller.specs.Steps.{stepOf}
 use Rattle.controller.specs.Lamps.{valuesOf}
 use Rattle.controller.specs.Samples.{Row, after}
+use Rattle.image.specs.Items.{sensorCount}
 use Rattle.image.specs.Counts.{countsDropped}
+use Rattle.laws.specs.Reached.{Reached}
+use Rattle.laws.specs.Reached.Reached.{fresh}
 use Rattle.laws.specs.Times.{next}
+use Rattle.laws.proofs.Lifted.{reached-is-allowed}
 use Rattle.laws.specs.Bounces.{AllQuiet}
 use Rattle.laws.proofs.Bounces.{fresh-is-quiet}
 use Rattle.lesson.specs.Replay.{replayOf}
@@ -43,7 +47,7 @@ use Rattle.files.specs.Traces.Ending.{at-end, at-refusal}
 use Rattle.files.specs.Brushed.{Brushed, AllForgiven, butForCounts}
 use Rattle.files.proofs.EachRow.{readAt}
 use Rattle.files.proofs.Traces.{row-read, a-step, next-due, is-due, due-line}
-use Rattle.files.proofs.Brushed.{dropped-says, dropped-shows, EachValid, same-step, valid-before, forgiven-is-valid, brushed-file, brushed-image}
+use Rattle.files.proofs.Brushed.{dropped-says, dropped-shows, EachValid, same-step, valid-before, as-many, forgiven-is-valid, brushed-file, brushed-image}
 
 -- ---- What a step adds
 
@@ -109,22 +113,23 @@ same-moments : (n time : ℕ) (s t : State) (rows others : List Row) (rest other
     → n + length rows ≤ greatest + 1
     → AllBearable rows → AllBearable others
     → Ending (n + length rows) rest ending → Ending (n + length others) otherRest otherEnding
+    → length (s .voters) ≡ sensorCount
     → countsDropped s ≡ countsDropped t
     → Brushed rows others
     → EachValid (after s rows .voters) → EachValid (after t others .voters)
     → momentsAfter time (readAt (Rows (dueBehind n)) s) (rowsBearing n rows ++ rest)
     ≡ momentsAfter time (readAt (Rows (dueBehind n)) t) (rowsBearing n others ++ otherRest)
 unfolding Brushed rowsBearing after
-same-moments n time s t [] [] rest otherRest ending otherEnding later fits can otherCan ends otherEnds alike brushed all other =
+same-moments n time s t [] [] rest otherRest ending otherEnding later fits can otherCan ends otherEnds eighteen alike brushed all other =
     ending-adds-none n time s rest ending (omega arith) (subst (λ (k : ℕ). Ending k rest ending) (add-zero n) ends)
     ∙ sym (ending-adds-none n time t otherRest otherEnding (omega arith) (subst (λ (k : ℕ). Ending k otherRest otherEnding) (add-zero n) otherEnds))
-same-moments n time s t [] (q ∷ qs) rest otherRest ending otherEnding later fits can otherCan ends otherEnds alike brushed all other = absurd brushed
-same-moments n time s t (r ∷ rs) [] rest otherRest ending otherEnding later fits can otherCan ends otherEnds alike brushed all other = absurd brushed
-same-moments n time s t (r ∷ rs) (q ∷ qs) rest otherRest ending otherEnding later fits can otherCan ends otherEnds alike brushed all other =
+same-moments n time s t [] (q ∷ qs) rest otherRest ending otherEnding later fits can otherCan ends otherEnds eighteen alike brushed all other = absurd brushed
+same-moments n time s t (r ∷ rs) [] rest otherRest ending otherEnding later fits can otherCan ends otherEnds eighteen alike brushed all other = absurd brushed
+same-moments n time s t (r ∷ rs) (q ∷ qs) rest otherRest ending otherEnding later fits can otherCan ends otherEnds eighteen alike brushed all other =
     let on : n + suc (length rs) ≡ n + 1 + length rs = omega arith in
     let otherOn : n + suc (length qs) ≡ n + 1 + length qs = omega arith in
     let step =
-    same-step s t (r .0) (q .0) (r .1) (q .1) alike (brushed .0) (brushed .1)
+    same-step s t (r .0) (q .0) (r .1) (q .1) eighteen alike (brushed .0) (brushed .1)
     (valid-before (next s r) rs all) (valid-before (next t q) qs other)
     in
     let added = same-adds time s t (stepOf s (r .0) (r .1)) (stepOf t (q .0) (q .1)) alike step in
@@ -134,7 +139,7 @@ same-moments n time s t (r ∷ rs) (q ∷ qs) rest otherRest ending otherEnding 
     (same-moments (n + 1) (timeAfter time ms) (next s r) (next t q) rs qs rest otherRest ending otherEnding (omega arith) (omega arith)
     (can .1) (otherCan .1)
     (subst (λ (k : ℕ). Ending k rest ending) on ends) (subst (λ (k : ℕ). Ending k otherRest otherEnding) otherOn otherEnds)
-    (ap (λ (a : Answer). a .state) step) (brushed .2) all other)
+    (as-many s (r ∷ []) ∙ eighteen) (ap (λ (a : Answer). a .state) step) (brushed .2) all other)
     ∙ ap (λ (l : List Moment). l ++ momentsAfter (timeAfter time l) (readAt (Rows (dueBehind (n + 1))) (next t q)) (rowsBearing (n + 1) qs ++ otherRest)) added
     ∙ sym (sample-step n time t q (rowsBearing (n + 1) qs ++ otherRest) later (omega arith) (otherCan .0))
 
@@ -151,18 +156,18 @@ moments-of s start rows rest bears =
     (at 0 (startedAt (start .0) s) ∷ []) (row-read 0 s start (omega arith) bears) refl
 
 -- Two inputs that bear a lesson and the same lesson brushed, with any row 0 of the same stamp, whatever they end in.
-pub brushed-dump : (s : State) → AllQuiet s
+pub brushed-dump : (s : State) → Reached s → AllQuiet s
     → (start again : Row) (rows others : List Row) → start .0 ≡ again .0 → Brushed rows others
     → AllForgiven (startedAt (start .0) s) rows → AllForgiven (startedAt (start .0) s) others
     → (input other ending otherEnding : List ℕ) → Bears input (start ∷ rows) ending → Bears other (again ∷ others) otherEnding
     → wavesFrom s input ≡ wavesFrom s other
 unfolding wavesFrom momentsFrom startedAt
-brushed-dump s quiet start again rows others times brushed forgiven otherForgiven input other ending otherEnding bears otherBears =
+brushed-dump s reached quiet start again rows others times brushed forgiven otherForgiven input other ending otherEnding bears otherBears =
     let from : State = startedAt (start .0) s in
     let same =
     same-moments 1 0 from from rows others (bears .others) (otherBears .others) ending otherEnding (omega arith) (omega (arith, bears .can .labels))
     (bears .can .each .1) (otherBears .can .each .1) (on rows (bears .others) ending (bears .ends)) (on others (otherBears .others) otherEnding (otherBears .ends))
-    refl brushed (forgiven-is-valid from quiet rows forgiven) (forgiven-is-valid from quiet others otherForgiven)
+    (reached-is-allowed s reached .sensors) refl brushed (forgiven-is-valid from quiet rows forgiven) (forgiven-is-valid from quiet others otherForgiven)
     in
     ap dumpOf
     (ap (momentsAfter 0 (readFrom s)) (bears .rows)
@@ -185,8 +190,8 @@ unfolding wavesOf
 brushed-lesson start again rows others times brushed forgiven otherForgiven input other ending bears otherBears =
     let quiet = fresh-is-quiet 0 in (
       replay-is-fresh input
-          ∙ brushed-file (freshOf 0) quiet start again rows others times brushed forgiven otherForgiven input other ending bears otherBears
+          ∙ brushed-file (freshOf 0) (fresh 0) quiet start again rows others times brushed forgiven otherForgiven input other ending bears otherBears
           ∙ sym (replay-is-fresh other),
-      brushed-dump (freshOf 0) quiet start again rows others times brushed forgiven otherForgiven input other ending ending bears otherBears,
-      brushed-image (freshOf 0) quiet start again rows others times brushed forgiven otherForgiven input other ending bears otherBears,
+      brushed-dump (freshOf 0) (fresh 0) quiet start again rows others times brushed forgiven otherForgiven input other ending ending bears otherBears,
+      brushed-image (freshOf 0) (fresh 0) quiet start again rows others times brushed forgiven otherForgiven input other ending bears otherBears,
     )

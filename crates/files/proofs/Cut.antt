@@ -56,9 +56,9 @@ same-bodies s stamp rows otherRows times =
 
 -- ---- Handed over
 
--- A lesson is cut behind one of its rows, of which there is row 0 at least, and after which no count runs. The image that the first input leaves is saved, and loaded at
--- any stamp, whatever the other laptop held before; the second input bears any row 0, and then the same samples at the same elapsed times,
--- the first of them counted from that row 0.
+-- A lesson is cut behind one of its rows, of which there is row 0 at least, and after which no count runs. The image that the first input
+-- leaves is saved, and loaded at any stamp, whatever the other laptop held before; the second input bears any row 0, and then the same samples
+-- at the same elapsed times, the first of them counted from that row 0.
 -- Each input may be any bytes that bear these, and may end in a refusal.
 pub in-two-files : (s : State) → Reached s
     → (start : Row) (more rest : List Row)
@@ -122,7 +122,8 @@ left-of-32-bits s [] is32 each = is32
 left-of-32-bits s (r ∷ rows) is32 each =
     left-of-32-bits (stepOf s (r .0) (r .1) .state) rows (step-is32 0 s (r .0) (r .1) is32 (omega (arith, each .0 .0))) (each .1)
 
--- So any lesson that a trace in form can bear, cut behind any of its rows after which no count runs, goes on by a clock that is ahead by any number of ms, modulo 2^32.
+-- So any lesson that a trace in form can bear, cut behind any of its rows after which no count runs, goes on by a clock that is ahead by any
+-- number of ms, modulo 2^32.
 pub in-two-files-by-another-clock : (s : State) → Reached s
     → (start : Row) (more rest : List Row)
     → NoCountRuns (after (startedAt (start .0) s) more)

@@ -14,5 +14,6 @@ pub mod Accounts
 pub mod Cut
 pub mod Brushed
 pub mod BrushedDumps
+pub mod BrushedWorked
 pub mod Tables
 pub mod WorstFile

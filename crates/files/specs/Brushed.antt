@@ -4,21 +4,24 @@
 use Prim.Native.Nat.{ℕ, _<_}
 use mathlib.Core.List.{List, [], _∷_}
 use mathlib.Core.Path.{_≡_}
-use lib.ListN.{length}
+use lib.ListN.{length, replicate}
 use Rattle.voter.specs.Runs.{majority, ThreeInARow}
 use Rattle.controller.specs.declared.State.{State}
 use Rattle.controller.specs.declared.Answer.{Answer}
 use Rattle.controller.specs.Steps.{someOverOne}
 use Rattle.controller.specs.Samples.{Row}
+use Rattle.image.specs.Items.{sensorCount}
 use Rattle.image.specs.Counts.{countsDropped}
+use Rattle.laws.specs.Evenly.{evenly}
+use Rattle.laws.specs.Cases.{switchSays}
 use Rattle.laws.specs.Bounces.{sensorAt, readingAt, readingsAt}
 
--- Two samples are the same but for bounces: at each sensor the majority says the same. Both are as long, and a byte of both is over 1 or of
--- none.
+-- Two samples are the same but for bounces: at each of the eighteen sensors the majority says the same. Both are as long, and a byte of both
+-- is over 1 or of none.
 pub record SameButForBounces (sample other : List ℕ) : Type 0 where
   pub long : length sample ≡ length other
   pub over : someOverOne sample ≡ someOverOne other
-  pub majorities : (i : ℕ) → majority (readingAt i sample) ≡ majority (readingAt i other)
+  pub majorities : (i : ℕ) → i < sensorCount → majority (readingAt i sample) ≡ majority (readingAt i other)
 
 -- Two lists of rows are: as many on both sides, with equal stamps and such samples.
 unfoldable pub Brushed : List Row → List Row → Type 0
@@ -34,3 +37,18 @@ AllForgiven s rows = (i : ℕ) → i < length (s .voters) → (k : ℕ) → Thre
 -- An answer but for the counts.
 abbrev pub butForCounts : Answer → Answer
 butForCounts a = record { refusal = a .refusal; state = countsDropped (a .state) }
+
+-- ---- A lesson that meets all of this: the rig at rest, and its switch brushed
+
+-- Row 0, and six samples 100 ms apart in which all channels agree.
+unfoldable pub rowZero : Row
+rowZero = (0, switchSays 0 0 0)
+
+unfoldable pub cleanRows : List Row
+cleanRows = evenly 100 0 (replicate 6 (switchSays 0 0 0))
+
+-- The same with bounces: channel 3 twice, agreement, then channel 2 and channel 1 once each.
+unfoldable pub brushedRows : List Row
+brushedRows =
+    evenly 100 0
+    (switchSays 0 0 1 ∷ switchSays 0 0 1 ∷ switchSays 0 0 0 ∷ switchSays 0 1 0 ∷ switchSays 1 0 0 ∷ switchSays 0 0 0 ∷ [])

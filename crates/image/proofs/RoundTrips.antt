@@ -1,5 +1,6 @@
--- Request K3: saving then loading gives the same controller but for the stamp and, until request K6, the counts of request K5; where no count
--- runs, but for the stamp alone. Loading then saving gives the same image but for the stamp. What is allowed saves to an image that is taken, and an image that is taken loads as what is allowed.
+-- Request K3: saving then loading gives the same controller but for the stamp and, until request K6, the counts of request K5; where no
+-- count runs, but for the stamp alone. Loading then saving gives the same image but for the stamp. What is allowed saves to an image that is
+-- taken, and an image that is taken loads as what is allowed.
 -- Assumes nothing.
 use Prim.Native.Nat.{ℕ, zero, suc, _-_, _%_, _^_, _≤_, _<_}
 use native.Mathlib.Omega.{arith}

@@ -1,22 +1,20 @@
--- Request K5 over the controller's run: a sensor hears the accepted samples, one after the other, and nothing of the refused ones. So a
--- channel is struck exactly if in three accepted samples in a row it was the odd one while all were valid.
+-- Request K5 over the controller's run: a sensor hears the accepted samples, one after the other, and nothing of the refused ones. So while it
+-- is not invalid a channel is struck exactly if in three accepted samples in a row it was the odd one while all were valid.
 -- Assumes nothing.
 use Prim.Native.Nat.{ℕ, zero, suc, _+_, _≤_, _<_}
 use native.Mathlib.Omega.{arith}
-use mathlib.Core.Bool.{Bool, true, false, cond, _&&_}
-use mathlib.Core.List.{List, [], _∷_, map}
+use mathlib.Core.Bool.{Bool, true, false, cond}
+use mathlib.Core.List.{List, [], _∷_}
 use mathlib.Core.Logic.{_↔_}
 use mathlib.Core.Path.{_≡_, refl, sym, ap, subst⁻¹, _∙_}
-use lib.Dec.{T, eqb, eqb→eq}
-use mir.Facts.{and-yes}
+use lib.Dec.{T, eqb}
 use lib.ListN.{length, getD}
 use Rattle.common.specs.Lists.{eachFrom}
 use Rattle.voter.specs.declared.Voter.{Voter}
 use Rattle.voter.specs.declared.Channels.the-variants.{All}
 use Rattle.voter.specs.Voting.{freshWith, isInvalid}
 use Rattle.voter.specs.Runs.{Reading, heard, heardAll, isStruck, ThreeInARow}
-use Rattle.voter.specs.Numbers.{numberOf}
-use Rattle.voter.proofs.Numbering.{all-by-number}
+use Rattle.voter.proofs.Laws.{fresh-is-quiet as fresh-sensor-is-quiet}
 use Rattle.voter.proofs.InARow.{struck-exactly}
 use Rattle.controller.specs.declared.State.{State}
 use Rattle.controller.specs.Votes.{votesAt, allVoted}
@@ -24,11 +22,28 @@ use Rattle.controller.specs.Start.{freshVoters, freshOf}
 use Rattle.controller.specs.Stages.{accepted}
 use Rattle.controller.specs.Steps.{refusalOf, stepAt, stepOf}
 use Rattle.controller.specs.Samples.{Row, after}
-use Rattle.image.specs.Rules.{every}
 use Rattle.laws.specs.Times.{next}
 use Rattle.laws.specs.Bounces.{sensorAt, AllQuiet, readingAt, readingsAt}
 use Rattle.laws.proofs.Stages.{stages}
 use Rattle.laws.proofs.Lifted.{votes-length, step-keeps}
+
+-- ---- Sensors by their numbers
+
+-- Each sensor is so, one after the other or by its number.
+unfoldable pub Each : (Voter → Type 0) → List Voter → Type 0
+Each P [] = Unit {0}
+Each P (v ∷ vs) = P v × Each P vs
+
+pub each-at-index : (P : Voter → Type 0) (vs : List Voter) → Each P vs → (i : ℕ) → i < length vs → P (getD vs i (freshWith false))
+unfolding Each
+each-at-index P [] each i h = absurd (omega arith)
+each-at-index P (v ∷ vs) each zero h = each .0
+each-at-index P (v ∷ vs) each (suc i) h = each-at-index P vs (each .1) i (omega arith)
+
+pub each-by-index : (P : Voter → Type 0) (vs : List Voter) → ((i : ℕ) → i < length vs → P (getD vs i (freshWith false))) → Each P vs
+unfolding Each
+each-by-index P [] all = tt
+each-by-index P (v ∷ vs) all = (all 0 (omega arith), each-by-index P vs (λ i h. all (suc i) (omega arith)))
 
 -- ---- A sample
 
@@ -87,24 +102,18 @@ struck-exactly-over-a-run i s within all none k channel rows valid =
 
 -- ---- A fresh start is such a state, for each of the eighteen sensors.
 
--- All channels are valid, and the count is 0.
-abbrev isQuiet : Voter → Bool
-isQuiet v = eqb (numberOf v) 0 && eqb (v .count) 0
-
-quiet-at : (vs : List Voter) → T (every (map isQuiet vs)) → (i : ℕ) → i < length vs → (d : Voter) → T (isQuiet (getD vs i d))
-quiet-at [] each i less d = absurd (omega arith)
-quiet-at (v ∷ vs) each zero less d = and-yes (isQuiet v) _ each .0
-quiet-at (v ∷ vs) each (suc i) less d = quiet-at vs (and-yes (isQuiet v) _ each .1) i (omega arith) d
-
-each-is-quiet : (stamp : ℕ) → T (every (map isQuiet (freshOf stamp .voters)))
-unfolding freshOf freshVoters freshWith numberOf
-each-is-quiet stamp = tt
+-- What holds of every fresh sensor holds of each of a fresh start.
+pub fresh-each : (P : Voter → Type 0) → ((held : Bool) → P (freshWith held)) → (stamp : ℕ) → Each P (freshOf stamp .voters)
+unfolding freshOf freshVoters Each
+fresh-each P of-fresh stamp =
+    let one : P (freshWith true) = of-fresh true in
+    let none : P (freshWith false) = of-fresh false in
+    (one, (none, (one, (one, (one, (none, (none, (none, (none, (none, (none, (one, (one, (one, (none, (none, (none, (none, tt))))))))))))))))))
 
 pub fresh-is-quiet : (stamp : ℕ) → AllQuiet (freshOf stamp)
-fresh-is-quiet stamp i within =
-    let v = sensorAt i (freshOf stamp) in
-    let quiet = and-yes (eqb (numberOf v) 0) (eqb (v .count) 0) (quiet-at (freshOf stamp .voters) (each-is-quiet stamp) i within (freshWith false)) in
-    (all-by-number v (eqb→eq (numberOf v) 0 (quiet .0)), eqb→eq (v .count) 0 (quiet .1))
+fresh-is-quiet stamp =
+    each-at-index (λ (v : Voter). (v .channels ≡ All) × (v .count ≡ 0)) (freshOf stamp .voters)
+    (fresh-each (λ (v : Voter). (v .channels ≡ All) × (v .count ≡ 0)) fresh-sensor-is-quiet stamp)
 
 pub struck-exactly-from-a-fresh-start : (stamp i : ℕ) → i < 18 → (k : ℕ) → 1 ≤ k → (rows : List Row)
     → isInvalid (sensorAt i (after (freshOf stamp) rows)) ≡ false

@@ -12,6 +12,7 @@ pub mod Ages
 pub mod Starts
 pub mod Latched
 pub mod Bounces
+pub mod Counts
 pub mod Images
 pub mod Wall
 pub mod Ground

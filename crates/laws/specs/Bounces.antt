@@ -9,7 +9,7 @@ use lib.ListN.{length, getD}
 use Rattle.voter.specs.declared.Voter.{Voter}
 use Rattle.voter.specs.declared.Channels.the-variants.{All}
 use Rattle.voter.specs.Voting.{freshWith}
-use Rattle.voter.specs.Runs.{Reading}
+use Rattle.voter.specs.Runs.{Reading, CountInRange}
 use Rattle.controller.specs.declared.State.{State}
 use Rattle.controller.specs.Votes.{channel}
 use Rattle.controller.specs.Steps.{stepOf}
@@ -23,6 +23,14 @@ sensorAt i s = getD (s .voters) i (freshWith false)
 -- All channels of every sensor are valid, and every count is 0, as at a fresh start.
 abbrev pub AllQuiet : State → Type 0
 AllQuiet s = (i : ℕ) → i < length (s .voters) → (sensorAt i s .channels ≡ All) × (sensorAt i s .count ≡ 0)
+
+-- The odd channel and the count of every sensor are in range.
+abbrev pub CountsInRange : State → Type 0
+CountsInRange s = (i : ℕ) → i < length (s .voters) → CountInRange (sensorAt i s)
+
+-- Every count is 0.
+abbrev pub CountsAre0 : State → Type 0
+CountsAre0 s = (i : ℕ) → i < length (s .voters) → sensorAt i s .count ≡ 0
 
 -- What its three channels say in a sample.
 abbrev pub readingAt : ℕ → List ℕ → Reading

@@ -9,13 +9,13 @@ use mathlib.Core.Logic.{_↔_}
 use mathlib.Core.Path.{_≡_, _∙_, refl, sym, ap, subst, subst⁻¹}
 use lib.Dec.{T, eqb, eqb→eq, eqb-refl}
 use borrow.Author.Tests.{eqb-true}
-use Rattle.voter.specs.Voting.{third, oddInARow}
+use Rattle.voter.specs.Voting.{oddInARow}
 use Rattle.voter.specs.Numbers.{channelsNumber, numberOf}
-use Rattle.voter.specs.Runs.{Reading, isOdd, heard, heardAll, isStruck}
+use Rattle.voter.specs.Runs.{Reading, oddIn, isOdd, heard, heardAll, isStruck}
 use Rattle.voter.specs.declared.Channels.the-variants.{All}
 use Rattle.voter.specs.declared.Voter.{Voter}
 use Rattle.voter.proofs.Numbering.{number-at}
-use Rattle.voter.proofs.Odd.{oddIn, odd-to-3, comes, at-most-one-more, is-odd, struck-is-not-all, strikes-at-the-third, Comes}
+use Rattle.voter.proofs.Odd.{odd-to-3, comes, at-most-one-more, is-odd, struck-is-not-all, strikes-at-the-third, Comes}
 use Rattle.voter.proofs.Outcomes.OfThree.{agreed, suspected, struck}
 
 -- While fewer than two were counted none is struck, and the count grows by one at most.

@@ -11,21 +11,25 @@ use lib.Dec.{T, eqb, eqb→eq, eqb-refl}
 use borrow.Author.Tests.{eqb-true, eqb-false}
 use Rattle.voter.specs.Voting.{third, freshWith, noneLeft, isInvalid}
 use Rattle.voter.specs.Numbers.{channelsNumber, channelsAt, numberOf}
-use Rattle.voter.specs.Runs.{Reading, heard, heardAll, isStruck, ThreeInARow}
+use Rattle.voter.specs.Runs.{Reading, oddIn, heard, heardAll, isStruck, ThreeInARow}
 use Rattle.voter.specs.declared.Channels.{Channels}
 use Rattle.voter.specs.declared.Channels.the-variants.{All, Nothing}
 use Rattle.voter.specs.declared.Voter.{Voter}
-use Rattle.voter.proofs.Numbering.{number-at}
-use Rattle.voter.proofs.Laws.{same-or-none}
-use Rattle.voter.proofs.Odd.{oddIn, odd-to-3, comes, first-in-a-row, at-most-one-more, is-odd, same-in-a-row, other-in-a-row, none-is-not-all, struck-is-not-all, strikes-at-the-third, Comes}
+use Rattle.voter.proofs.Numbering.{number-at, all-has-0}
+use Rattle.voter.proofs.Laws.{same-or-none, none-is-not-all, all-is-valid}
+use Rattle.voter.proofs.Odd.{odd-to-3, comes, first-in-a-row, at-most-one-more, is-odd, same-in-a-row, other-in-a-row, struck-is-not-all, strikes-at-the-third, Comes}
 use Rattle.voter.proofs.Outcomes.OfThree.{agreed, suspected, struck}
 
 -- ---- Over any number of samples: what has been heard tells what was counted
 
+pub heard-in-turn : (v : Voter) (rs qs : List Reading) → heardAll v (rs ++ qs) ≡ heardAll (heardAll v rs) qs
+unfolding heardAll
+heard-in-turn v [] qs = refl
+heard-in-turn v (r ∷ rs) qs = heard-in-turn (heard v r) rs qs
+
 heard-last : (v : Voter) (rs : List Reading) (r : Reading) → heardAll v (rs ++ r ∷ []) ≡ heard (heardAll v rs) r
 unfolding heardAll
-heard-last v [] r = refl
-heard-last v (q ∷ rs) r = heard-last (heard v q) rs r
+heard-last v rs r = heard-in-turn v rs (r ∷ [])
 
 -- Behind a sensor that has heard these readings: nothing is counted; the last one, or the last two, had its odd channel as the odd one;
 -- a channel is struck, and three in a row had it so; or the sensor is invalid, and three in a row had struck a channel before.
@@ -36,7 +40,7 @@ data Behind (v : Voter) : List Reading → Voter → Type 0 where
       (rs : List Reading) (a b : Reading) {w : Voter} →
       w .channels ≡ All → w .count ≡ 2 → oddIn a ≡ w .odd → oddIn b ≡ w .odd →
       Behind v (rs ++ a ∷ b ∷ []) w
-  three : {rs : List Reading} {w : Voter} (k : ℕ) → k ≤ 3 → 1 ≤ k → w .channels ≡ channelsAt k → ThreeInARow k v rs → Behind v rs w
+  three : {rs : List Reading} {w : Voter} (k : ℕ) → k ≤ 3 → w .channels ≡ channelsAt k → ThreeInARow k v rs → Behind v rs w
   end : {rs : List Reading} {w : Voter} (k : ℕ) → w .channels ≡ Nothing → ThreeInARow k v rs → Behind v rs w
 
 module _ (v : Voter) (r : Reading) where
@@ -71,8 +75,9 @@ module _ (v : Voter) (r : Reading) where
       by : (same : Bool) → eqb (w .odd) (oddIn r) ≡ same → Behind v ((rs ++ a ∷ b ∷ []) ++ r ∷ []) u
       by true e =
           let same : w .odd ≡ oddIn r = eqb-true (w .odd) (oddIn r) e in
-          three (oddIn r) (odd-to-3 r) low refl
+          three (oddIn r) (odd-to-3 r) refl
           (record {
+            channel = low;
             earlier = rs;
             first = a;
             second = b;
@@ -88,6 +93,7 @@ module _ (v : Voter) (r : Reading) where
 one-later : (k : ℕ) (v : Voter) (rs : List Reading) (r : Reading) → ThreeInARow k v rs → ThreeInARow k v (rs ++ r ∷ [])
 one-later k v rs r h =
     record {
+      channel = h .channel;
       earlier = h .earlier;
       first = h .first;
       second = h .second;
@@ -109,10 +115,10 @@ next-behind : (v : Voter) (rs : List Reading) (w : Voter) → w ≡ heardAll v r
 next-behind v rs w is (nothing all none) r = from-nothing v r rs w none (heard w r) (comes w all r)
 next-behind v rs w is (one rs₀ a all counted odd) r = from-one v r rs₀ a w counted odd (heard w r) (comes w all r)
 next-behind v rs w is (two rs₀ a b all counted first second) r = from-two v r rs₀ a b w is all counted first second (heard w r) (comes w all r)
-next-behind v rs w is (three k high low left row) r =
+next-behind v rs w is (three k high left row) r =
     same-or-none (λ (ch : Channels). (u : Voter) → u .channels ≡ ch → Behind v (rs ++ r ∷ []) u) w
-    (λ all. struck-is-not-all k high low (sym left ∙ all)) (r .0) (r .1) (r .2)
-    (λ u same. three k high low (same ∙ left) (one-later k v rs r row))
+    (λ all. struck-is-not-all k high (row .channel) (sym left ∙ all)) (r .0) (r .1) (r .2)
+    (λ u same. three k high (same ∙ left) (one-later k v rs r row))
     (λ u none. end k none (one-later k v rs r row))
     (heard w r) refl
 next-behind v rs w is (end k none row) r =
@@ -144,16 +150,11 @@ module _ (v : Voter) (all : v .channels ≡ All) (none : v .count ≡ 0) (k : �
       by w valid is (nothing all none) = absurd (omega (arith, ap channelsNumber all))
       by w valid is (one rs₀ a all counted odd) = absurd (omega (arith, ap channelsNumber all))
       by w valid is (two rs₀ a b all counted first second) = absurd (omega (arith, ap channelsNumber all))
-      by {rs} w valid is (three j high low left row) =
+      by {rs} w valid is (three j high left row) =
           subst (λ (n : ℕ). ThreeInARow n v rs) (sym (number-at j (omega arith)) ∙ sym (ap channelsNumber left) ∙ is) row
       by w valid is (end j gone row) = absurd (subst T (sym (ap noneLeft gone) ∙ valid) tt)
 
 -- And where they had, it is struck.
-
-heard-in-turn : (v : Voter) (rs qs : List Reading) → heardAll v (rs ++ qs) ≡ heardAll (heardAll v rs) qs
-unfolding heardAll
-heard-in-turn v [] qs = refl
-heard-in-turn v (r ∷ rs) qs = heard-in-turn (heard v r) rs qs
 
 stays-gone : (w : Voter) → w .channels ≡ Nothing → (rs : List Reading) → heardAll w rs .channels ≡ Nothing
 unfolding heardAll
@@ -161,24 +162,22 @@ stays-gone w none [] = none
 stays-gone w none (r ∷ rs) = stays-gone (heard w r) (still-gone w none r) rs
 
 -- A struck channel stays struck while the sensor is not invalid.
-stays-struck : (ch : Channels) → (ch ≡ All → ⊥) → (w : Voter) → w .channels ≡ ch → (rs : List Reading) → isInvalid (heardAll w rs) ≡ false → heardAll w rs .channels ≡ ch
+struck-stays : (ch : Channels) → (ch ≡ All → ⊥) → (w : Voter) → w .channels ≡ ch → (rs : List Reading) → isInvalid (heardAll w rs) ≡ false → heardAll w rs .channels ≡ ch
 unfolding heardAll isInvalid
-stays-struck ch some w is [] valid = is
-stays-struck ch some w is (r ∷ rs) valid =
+struck-stays ch some w is [] valid = is
+struck-stays ch some w is (r ∷ rs) valid =
     same-or-none (λ (c : Channels). heard w r .channels ≡ c → heardAll (heard w r) rs .channels ≡ ch) w (λ all. some (sym is ∙ all)) (r .0) (r .1) (r .2)
-    (λ same. stays-struck ch some (heard w r) (same ∙ is) rs valid)
+    (λ same. struck-stays ch some (heard w r) (same ∙ is) rs valid)
     (λ none. absurd (subst T (sym (ap noneLeft (stays-gone (heard w r) none rs)) ∙ valid) tt))
     refl
 
 three-in-a-row-strike :
-    (v : Voter) (k : ℕ) →
-    1 ≤ k →
-    (rs : List Reading) →
+    (v : Voter) (k : ℕ) (rs : List Reading) →
     isInvalid (heardAll v rs) ≡ false →
     ThreeInARow k v rs →
     T (isStruck k (heardAll v rs))
 unfolding heardAll numberOf
-three-in-a-row-strike v k channel rs valid row =
+three-in-a-row-strike v k rs valid row =
     let a = row .first in
     let b = row .second in
     let c = row .third in
@@ -189,13 +188,13 @@ three-in-a-row-strike v k channel rs valid row =
     ap (λ (u : Voter). u .channels) (sym (heard-in-turn v (row .earlier) (a ∷ b ∷ []))) ∙ row .allValid
     in
     let at-three : heard (heard (heard w a) b) c .channels ≡ channelsAt k =
-    strikes-at-the-third k channel w a b c first (eqb→eq (oddIn b) k (row .odd .1)) (eqb→eq (oddIn c) k (row .odd .2)) all-at-two
+    strikes-at-the-third k (row .channel) w a b c first (eqb→eq (oddIn b) k (row .odd .1)) (eqb→eq (oddIn c) k (row .odd .2)) all-at-two
     in
     let now : heardAll v rs ≡ heardAll (heard (heard (heard w a) b) c) (row .later) =
     ap (heardAll v) (row .inARow) ∙ heard-in-turn v (row .earlier) (a ∷ b ∷ c ∷ row .later)
     in
     let left =
-    stays-struck (channelsAt k) (struck-is-not-all k high channel) (heard (heard (heard w a) b) c) at-three (row .later)
+    struck-stays (channelsAt k) (struck-is-not-all k high (row .channel)) (heard (heard (heard w a) b) c) at-three (row .later)
     (ap isInvalid (sym now) ∙ valid)
     in
     subst⁻¹ (λ (n : ℕ). T (eqb n k))
@@ -212,7 +211,7 @@ pub struck-exactly :
     isInvalid (heardAll v rs) ≡ false →
     T (isStruck k (heardAll v rs)) ↔ ThreeInARow k v rs
 struck-exactly v all none k channel rs valid =
-    (struck-had-three-in-a-row v all none k channel rs valid, three-in-a-row-strike v k channel rs valid)
+    (struck-had-three-in-a-row v all none k channel rs valid, three-in-a-row-strike v k rs valid)
 
 pub fresh-struck-exactly :
     (held : Bool) (k : ℕ) →
@@ -223,19 +222,23 @@ pub fresh-struck-exactly :
 unfolding freshWith
 fresh-struck-exactly held = struck-exactly (freshWith held) refl refl
 
--- While no channel has been the odd one three times in a row none is struck: bounces are forgiven, however many there are.
-pub forgiven-bounces :
+-- All channels stay valid exactly if none has been the odd one three times in a row: other bounces are forgiven, however many there are.
+pub all-valid-exactly :
     (v : Voter) →
     v .channels ≡ All →
     v .count ≡ 0 →
     (rs : List Reading) →
-    ((k : ℕ) → ThreeInARow k v rs → ⊥) →
-    heardAll v rs .channels ≡ All
-forgiven-bounces v all none rs forgiven = by (heardAll v rs) (behind v all none rs) forgiven
+    (heardAll v rs .channels ≡ All) ↔ ((k : ℕ) → ThreeInARow k v rs → ⊥)
+all-valid-exactly v all none rs = (no-three, by (heardAll v rs) (behind v all none rs))
   where
+    no-three : heardAll v rs .channels ≡ All → (k : ℕ) → ThreeInARow k v rs → ⊥
+    no-three valid k row =
+        let number : numberOf (heardAll v rs) ≡ k = eqb→eq _ k (three-in-a-row-strike v k rs (all-is-valid (heardAll v rs) valid) row) in
+        omega (arith, all-has-0 (heardAll v rs) valid, row .channel)
+
     by : {rs : List Reading} (w : Voter) → Behind v rs w → ((k : ℕ) → ThreeInARow k v rs → ⊥) → w .channels ≡ All
     by w (nothing valid quiet) forgiven = valid
     by w (one rs₀ a valid counted odd) forgiven = valid
     by w (two rs₀ a b valid counted first second) forgiven = valid
-    by w (three k high low left row) forgiven = absurd (forgiven k row)
+    by w (three k high left row) forgiven = absurd (forgiven k row)
     by w (end k gone row) forgiven = absurd (forgiven k row)

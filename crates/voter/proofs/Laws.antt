@@ -2,13 +2,17 @@
 -- Assumes nothing.
 use Prim.Native.Nat.{ℕ, _≤_, zero-le}
 use native.Mathlib.Nat.{le-refl}
+use native.Mathlib.Omega.{arith}
 use mathlib.Core.Bool.{Bool, true, false, not, Bool·beq}
-use mathlib.Core.Path.{_≡_, _∙_, refl, ap₂, subst⁻¹}
-use lib.Dec.{T, lit≤}
+use mathlib.Core.Path.{_≡_, _∙_, refl, ap, ap₂, subst⁻¹}
+use lib.Dec.{T, eqb, lit≤}
+use borrow.Author.Tests.{eqb-true, eqb-false}
 use Rattle.voter.specs.Voting.{oddOf, majorityOf, byOdd, ofThree, ofTwo, votedBy, voted, freshWith, valueOf, noneLeft, isInvalid, validChannels, AgreeWhereCounted}
+use Rattle.voter.specs.Numbers.{channelsNumber, numberOf}
 use Rattle.voter.specs.declared.Channels.{Channels}
 use Rattle.voter.specs.declared.Channels.the-variants.{All, Without1, Without2, Without3, Nothing}
 use Rattle.voter.specs.declared.Voter.{Voter}
+use Rattle.voter.proofs.Numbering.{all-has-0, all-by-number}
 use Rattle.voter.proofs.Outcomes.{OfThree, of-three, OfTwo, of-two}
 use Rattle.voter.proofs.Outcomes.OfThree.{agreed, suspected, struck}
 use Rattle.voter.proofs.Outcomes.OfTwo.{together, doubted, lost}
@@ -51,6 +55,19 @@ same-or-none P v some a b c same none = by (v .channels) refl
     by Without2 e = two-or-none P v a c same none
     by Without3 e = two-or-none P v a b same none
     by Nothing e = same
+
+pub none-is-not-all : Nothing ≡ All → ⊥
+none-is-not-all e = omega (arith, ap channelsNumber e)
+
+-- Where all are valid after a vote they were before it.
+pub all-were-valid : (v : Voter) (a b c : Bool) → voted v a b c .channels ≡ All → v .channels ≡ All
+all-were-valid v a b c all = by (eqb (numberOf v) 0) refl
+  where
+    by : (zero : Bool) → eqb (numberOf v) 0 ≡ zero → v .channels ≡ All
+    by true e = all-by-number v (eqb-true (numberOf v) 0 e)
+    by false e =
+        let some : v .channels ≡ All → ⊥ = λ is. eqb-false (numberOf v) 0 e (all-has-0 v is) in
+        absurd (same-or-none (λ (ch : Channels). ch ≡ All → ⊥) v some a b c some none-is-not-all all)
 
 fewer : (ch : Channels) (v : Voter) → v .channels ≡ ch → (a b c : Bool) → validChannels (votedBy ch v a b c .channels) ≤ validChannels (v .channels)
 unfolding votedBy
@@ -118,6 +135,11 @@ pub invalid-for-ever : (v : Voter) (a b c : Bool) → T (isInvalid v) → voted 
 unfolding voted isInvalid
 invalid-for-ever v a b c h = invalid-kept (v .channels) v a b c h
 
+-- With all channels valid a sensor is not invalid.
+pub all-is-valid : (v : Voter) → v .channels ≡ All → isInvalid v ≡ false
+unfolding isInvalid
+all-is-valid v all = ap noneLeft all
+
 -- ---- With two of three valid channels telling the truth the vote is the truth.
 
 -- Three valid channels: the value is the majority's, at a strike too.
@@ -150,7 +172,12 @@ two-tell-the-truth v e truth other =
       value-is-of-the-majority v e other truth truth ∙ told .2,
     )
 
--- A fresh sensor is not invalid.
+-- A fresh sensor has all channels valid and its count at 0, ..
+pub fresh-is-quiet : (held : Bool) → (freshWith held .channels ≡ All) × (freshWith held .count ≡ 0)
+unfolding freshWith
+fresh-is-quiet held = (refl, refl)
+
+-- .. so it is not invalid.
 pub fresh-is-valid : (held : Bool) → isInvalid (freshWith held) ≡ false
 unfolding isInvalid freshWith
 fresh-is-valid held = refl

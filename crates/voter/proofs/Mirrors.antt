@@ -9,7 +9,7 @@ use lib.Dec.{lit≤, lit<}
 use lib.ListN.{getD}
 use mir.Val.{boolByte}
 use Rattle.common.specs.Bits.{bit, isOne}
-use Rattle.voter.specs.Voting.{uncounted, valueOf, isInvalid}
+use Rattle.voter.specs.Voting.{uncounted, freshWith, valueOf, isInvalid}
 use Rattle.voter.specs.Numbers.{numberOf}
 use Rattle.voter.specs.Items.{itemsPerSensor, sensorItems, sensorTops, SensorInRange, sensorIn, countDropped, NoCountRunsAt}
 use Rattle.voter.specs.declared.Voter.{Voter}
@@ -54,9 +54,14 @@ sensor-mirror v = ap₂ uncounted (at-number (v .channels)) (one-of-bit (v .held
 
 -- .. which is that sensor where no count runs, ..
 pub no-count-no-loss : (v : Voter) → NoCountRunsAt v → countDropped v ≡ v
+unfolding valueOf
 no-count-no-loss v none = rw (none .odd, none .count)
 
--- .. and in any case is invalid or not as it was ..
+-- .. and in any case has the same value, is invalid or not as it was ..
+pub dropped-has-the-value : (v : Voter) → valueOf (countDropped v) ≡ valueOf v
+unfolding valueOf
+dropped-has-the-value v = refl
+
 pub dropped-is-invalid-too : (v : Voter) → isInvalid (countDropped v) ≡ isInvalid v
 unfolding isInvalid
 dropped-is-invalid-too v = refl
@@ -73,3 +78,8 @@ items-mirror [] h = absurd (omega (arith, h .long))
 items-mirror (number ∷ []) h = absurd (omega (arith, h .long))
 items-mirror (number ∷ held ∷ []) h = rw (number-at number (h .ranges 0 (lit< tt)), bit-of-one held (h .ranges 1 (lit< tt)))
 items-mirror (number ∷ held ∷ item ∷ items) h = absurd (omega (arith, h .long))
+
+-- Of a fresh sensor nothing is lost.
+pub fresh-loses-nothing : (held : Bool) → countDropped (freshWith held) ≡ freshWith held
+unfolding freshWith valueOf
+fresh-loses-nothing held = refl

@@ -5,23 +5,19 @@ use native.Mathlib.Omega.{arith}
 use mathlib.Core.Bool.{Bool, true, false, cond}
 use mathlib.Core.Path.{_≡_, _∙_, refl, sym, ap, subst, subst⁻¹}
 use lib.Dec.{T, eqb, eqb-refl, lit≤}
-use borrow.Author.Tests.{eqb-true, eqb-false, eq-eqb, ne-eqb}
+use borrow.Author.Tests.{eq-eqb, ne-eqb}
 use Rattle.voter.specs.Voting.{third, oddOf, oddInARow, byOdd, ofThree, votedBy, voted}
-use Rattle.voter.specs.Numbers.{channelsNumber, channelsAt, numberOf}
-use Rattle.voter.specs.Runs.{Reading, isOdd, majority, heard}
+use Rattle.voter.specs.Numbers.{channelsNumber, channelsAt}
+use Rattle.voter.specs.Runs.{Reading, oddIn, isOdd, majority, heard}
 use Rattle.voter.specs.declared.Channels.{Channels}
-use Rattle.voter.specs.declared.Channels.the-variants.{All, Nothing}
+use Rattle.voter.specs.declared.Channels.the-variants.{All}
 use Rattle.voter.specs.declared.Voter.{Voter}
-use Rattle.voter.proofs.Numbering.{number-at, all-has-0, all-by-number}
+use Rattle.voter.proofs.Numbering.{number-at}
 use Rattle.voter.proofs.Outcomes.{OfThree, of-three}
 use Rattle.voter.proofs.Outcomes.OfThree.{agreed, suspected, struck}
-use Rattle.voter.proofs.Laws.{same-or-none}
+use Rattle.voter.proofs.Laws.{all-were-valid}
 
 -- ---- A vote with all channels valid
-
--- The odd one of a reading.
-abbrev pub oddIn : Reading → ℕ
-oddIn r = oddOf (r .0) (r .1) (r .2)
 
 pub odd-to-3 : (r : Reading) → oddIn r ≤ 3
 unfolding oddOf
@@ -74,26 +70,13 @@ same-in-a-row v odd e = rw (eq-eqb (v .odd) odd e)
 pub other-in-a-row : (v : Voter) (odd : ℕ) → (v .odd ≡ odd → ⊥) → oddInARow v odd ≡ 1
 other-in-a-row v odd e = rw (ne-eqb (v .odd) odd e)
 
-pub none-is-not-all : Nothing ≡ All → ⊥
-none-is-not-all e = omega (arith, ap channelsNumber e)
-
 -- A struck channel has a number, so not all are valid.
 pub struck-is-not-all : (k : ℕ) → k ≤ 3 → 1 ≤ k → channelsAt k ≡ All → ⊥
 struck-is-not-all k high low e = omega (arith, sym (number-at k (omega arith)) ∙ ap channelsNumber e)
 
 -- ---- The same channel once more
 
--- Where all are valid they were before.
-pub was-all : (w : Voter) (r : Reading) → heard w r .channels ≡ All → w .channels ≡ All
-was-all w r all = by (eqb (numberOf w) 0) refl
-  where
-    by : (zero : Bool) → eqb (numberOf w) 0 ≡ zero → w .channels ≡ All
-    by true e = all-by-number w (eqb-true (numberOf w) 0 e)
-    by false e =
-        let some : w .channels ≡ All → ⊥ = λ is. eqb-false (numberOf w) 0 e (all-has-0 w is) in
-        absurd (same-or-none (λ (ch : Channels). ch ≡ All → ⊥) w some (r .0) (r .1) (r .2) some none-is-not-all all)
-
-at-least-one : (v : Voter) (odd : ℕ) → 1 ≤ oddInARow v odd
+pub at-least-one : (v : Voter) (odd : ℕ) → 1 ≤ oddInARow v odd
 at-least-one v odd = by (eqb (v .odd) odd)
   where
     by : (same : Bool) → 1 ≤ cond same (v .count + 1) 1
@@ -125,8 +108,8 @@ module _ (k : ℕ) (channel : 1 ≤ k) where
       heard (heard w a) b .channels ≡ All →
       heard (heard (heard w a) b) c .channels ≡ channelsAt k
   strikes-at-the-third w a b c first second third valid =
-      let all-once : heard w a .channels ≡ All = was-all (heard w a) b valid in
-      let once = counted w (was-all w a all-once) a first all-once in
+      let all-once : heard w a .channels ≡ All = all-were-valid (heard w a) (b .0) (b .1) (b .2) valid in
+      let once = counted w (all-were-valid w (a .0) (a .1) (a .2) all-once) a first all-once in
       let twice = counted (heard w a) all-once b second valid in
       strikes (heard (heard w a) b) valid c third
       (omega (

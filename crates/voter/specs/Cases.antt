@@ -35,7 +35,7 @@ voterCases =
     gives "P1 three times: value 1, channel 3 struck" afterP1 (1 ∷ 3 ∷ 0 ∷ 0 ∷ []) ∷
     gives "P2 then 1,0 on the others: 1 kept" (afterP1 ++ says 1 0 1 ∷ []) (1 ∷ 3 ∷ 0 ∷ 1 ∷ []) ∷
     gives "P2 twice: 1 kept, valid" (afterP1 ++ says 1 0 1 ∷ says 1 0 0 ∷ []) (1 ∷ 3 ∷ 0 ∷ 2 ∷ []) ∷
-    gives "P2 three times: invalid, 1 kept" (afterP1 ++ says 1 0 1 ∷ says 1 0 0 ∷ says 0 1 0 ∷ []) (1 ∷ 4 ∷ 0 ∷ 0 ∷ []) ∷
+    gives "P2 three times: invalid, 1 kept" (afterP1 ++ says 1 0 1 ∷ says 1 0 0 ∷ says 1 0 0 ∷ []) (1 ∷ 4 ∷ 0 ∷ 0 ∷ []) ∷
     gives "P3 after P1, 1,1,1: channel 3 stays struck" (afterP1 ++ says 1 1 1 ∷ []) (1 ∷ 3 ∷ 0 ∷ 0 ∷ []) ∷
     -- beside them: three valid
     gives "agreement sets the count to 0" (twice ++ says 1 1 1 ∷ []) (1 ∷ 0 ∷ 0 ∷ 0 ∷ []) ∷
@@ -47,6 +47,7 @@ voterCases =
     -- two valid
     gives "agreement of two sets the count to 0" (afterP1 ++ says 1 0 0 ∷ says 1 0 0 ∷ says 0 0 1 ∷ []) (0 ∷ 3 ∷ 0 ∷ 0 ∷ []) ∷
     gives "after it they start again" (afterP1 ++ says 1 0 0 ∷ says 1 0 0 ∷ says 0 0 1 ∷ says 1 0 1 ∷ []) (0 ∷ 3 ∷ 0 ∷ 1 ∷ []) ∷
+    gives "in which way they differ makes no difference" (afterP1 ++ says 1 0 1 ∷ says 0 1 1 ∷ says 1 0 0 ∷ []) (1 ∷ 4 ∷ 0 ∷ 0 ∷ []) ∷
     -- until request K6 an image drops the count
     record { name = "a sensor back from its items: the count is 0"; gives = shown (sensorIn (sensorItems (heardAll (freshWith false) twice))); wanted = 1 ∷ 0 ∷ 0 ∷ 0 ∷ [] } ∷
     []

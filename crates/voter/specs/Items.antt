@@ -34,9 +34,9 @@ sensorIn items = uncounted (channelsAt (getD items 0 0)) (isOne (getD items 1 0)
 
 -- What comes back of a sensor: its count is dropped.
 abbrev pub countDropped : Voter → Voter
-countDropped v = uncounted (v .channels) (v .held)
+countDropped v = uncounted (v .channels) (valueOf v)
 
--- No count runs at a sensor.
+-- No count runs at a sensor: there is no odd channel, and the count is 0.
 pub record NoCountRunsAt (v : Voter) : Type 0 where
   pub odd : v .odd ≡ 0
   pub count : v .count ≡ 0

@@ -1,6 +1,6 @@
 -- Request K5 over samples in a row: what its laws speak of, in its words and not by the count. Only accepted samples are heard here.
 -- Assumes nothing.
-use Prim.Native.Nat.{ℕ}
+use Prim.Native.Nat.{ℕ, _≤_}
 use mathlib.Core.Bool.{Bool, false, not, Bool·beq}
 use mathlib.Core.List.{List, [], _∷_, _++_}
 use mathlib.Core.Path.{_≡_}
@@ -22,9 +22,13 @@ Reading = Bool × Bool × Bool
 abbrev pub says : ℕ → ℕ → ℕ → Reading
 says one two three = (isOne one, isOne two, isOne three)
 
--- Channel k is the odd one of three.
+-- The odd one of three; 0 where they agree.
+abbrev pub oddIn : Reading → ℕ
+oddIn r = oddOf (r .0) (r .1) (r .2)
+
+-- Channel k, 1 to 3, is the odd one.
 abbrev pub isOdd : ℕ → Reading → Bool
-isOdd k r = eqb (oddOf (r .0) (r .1) (r .2)) k
+isOdd k r = eqb (oddIn r) k
 
 -- What the majority of three says.
 abbrev pub majority : Reading → Bool
@@ -59,6 +63,7 @@ isStruck k v = eqb (numberOf v) k
 
 -- Somewhere three readings in a row have channel k as the odd one, while all channels are valid.
 pub record ThreeInARow (k : ℕ) (v : Voter) (readings : List Reading) : Type 0 where
+  pub channel : 1 ≤ k
   pub earlier : List Reading
   pub first : Reading
   pub second : Reading
@@ -67,3 +72,9 @@ pub record ThreeInARow (k : ℕ) (v : Voter) (readings : List Reading) : Type 0 
   pub inARow : readings ≡ earlier ++ first ∷ second ∷ third ∷ later
   pub odd : T (isOdd k first) × T (isOdd k second) × T (isOdd k third)
   pub allValid : heardAll v (earlier ++ first ∷ second ∷ []) .channels ≡ All
+
+-- Odd channel and count as every vote leaves them: 0 to 3, 0 to 2, and no odd channel where the count is 0.
+pub record CountInRange (v : Voter) : Type 0 where
+  pub odd : v .odd ≤ 3
+  pub count : v .count ≤ 2
+  pub none : v .count ≡ 0 → v .odd ≡ 0

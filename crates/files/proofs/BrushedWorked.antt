@@ -1,0 +1,141 @@
+-- Two lessons meet what the theorems on a brushed lesson ask, computed: so what is written of them is the same bytes.
+-- Assumes nothing.
+use Prim.Native.Nat.{ℕ, zero, suc, _<_}
+use native.Mathlib.Omega.{arith}
+use mathlib.Core.Bool.{Bool, true, false, _&&_, Bool·beq}
+use mathlib.Core.List.{List, [], _∷_, map}
+use mathlib.Core.Path.{_≡_, refl, ap}
+use lib.Dec.{T, eqb, leb, eqb→eq, leb→le, lit≤}
+use lib.ListN.{length, getD}
+use borrow.Author.Tests.{eqb-true, eqb-false}
+use mir.Facts.{and-yes}
+use Rattle.voter.specs.declared.Voter.{Voter}
+use Rattle.voter.specs.Numbers.{numberOf}
+use Rattle.voter.specs.Runs.{majority}
+use Rattle.voter.proofs.Numbering.{all-by-number}
+use Rattle.trace.specs.Numbers.{greatest}
+use Rattle.trace.specs.Written.{AllBits}
+use Rattle.controller.specs.Start.{freshOf, startedAt}
+use Rattle.controller.specs.Steps.{someOverOne}
+use Rattle.controller.specs.Samples.{Row, after}
+use Rattle.controller.proofs.Computing.{rules}
+use Rattle.image.specs.Items.{sensorCount}
+use Rattle.image.specs.Rules.{every}
+use Rattle.laws.specs.Evenly.{evenly}
+use Rattle.laws.specs.Bounces.{readingAt}
+use Rattle.laws.proofs.Bounces.{Each, fresh-is-quiet}
+use Rattle.settling.proofs.Demand3.{same}
+use Rattle.lesson.specs.Replay.{replayOf}
+use Rattle.dumping.specs.Moments.{wavesOf}
+use Rattle.handing.specs.Handing.{savedOf}
+use Rattle.files.specs.Traces.{AllBearable, InOneTrace, traceBearing}
+use Rattle.files.specs.Brushed.{SameButForBounces, Brushed, AllForgiven, rowZero, cleanRows, brushedRows}
+use Rattle.files.proofs.Traces.{a-trace-bears-its-samples}
+use Rattle.files.proofs.Brushed.{EachValid, valid-is-forgiven}
+use Rattle.files.proofs.BrushedDumps.{brushed-lesson}
+
+-- ---- By tests
+
+allBelow : ℕ → (ℕ → Bool) → Bool
+allBelow zero test = true
+allBelow (suc n) test = test n && allBelow n test
+
+below : (n : ℕ) (test : ℕ → Bool) → T (allBelow n test) → (i : ℕ) → i < n → T (test i)
+unfolding allBelow
+below zero test all i h = absurd (omega arith)
+below (suc n) test all i h = by (eqb i n) refl (below n test (and-yes (test n) _ all .1) i)
+  where
+    by : (last : Bool) → eqb i n ≡ last → (i < n → T (test i)) → T (test i)
+    by true e before = rw (eqb-true i n e) (and-yes (test n) _ all .0)
+    by false e before = before (omega (arith, eqb-false i n e))
+
+-- Two samples at each of whose sensors the majorities are tested to be the same.
+abbrev sameAt : List ℕ → List ℕ → ℕ → Bool
+sameAt sample other i = Bool·beq (majority (readingAt i sample)) (majority (readingAt i other))
+
+tested : (sample other : List ℕ) → length sample ≡ length other → someOverOne sample ≡ someOverOne other → T (allBelow sensorCount (sameAt sample other)) → SameButForBounces sample other
+tested sample other long over all =
+    record { long = long; over = over; majorities = λ i h. same _ _ (below sensorCount (sameAt sample other) all i h) }
+
+-- Sensors of which all are tested to have their channels valid.
+all-tested : (vs : List Voter) → T (every (map (λ (v : Voter). eqb (numberOf v) 0) vs)) → EachValid vs
+unfolding Each
+all-tested [] all = tt
+all-tested (v ∷ vs) all =
+    let parts = and-yes (eqb (numberOf v) 0) _ all in (all-by-number v (eqb→eq (numberOf v) 0 (parts .0)), all-tested vs (parts .1))
+
+-- Rows that are tested to be what a trace can bear.
+bits-tested : (bytes : List ℕ) → T (every (map (λ (b : ℕ). leb b 1) bytes)) → AllBits bytes
+bits-tested [] all = tt
+bits-tested (b ∷ bytes) all = let parts = and-yes (leb b 1) _ all in (leb→le b 1 (parts .0), bits-tested bytes (parts .1))
+
+abbrev canBear : Row → Bool
+canBear r = leb (r .0) greatest && (eqb (length (r .1)) 54 && every (map (λ (b : ℕ). leb b 1) (r .1)))
+
+rows-tested : (rows : List Row) → T (every (map canBear rows)) → AllBearable rows
+rows-tested [] all = tt
+rows-tested (r ∷ rows) all =
+    let parts = and-yes (canBear r) _ all in
+    let own = and-yes (leb (r .0) greatest) _ (parts .0) in
+    let sample = and-yes (eqb (length (r .1)) 54) _ (own .1) in
+    ((leb→le (r .0) greatest (own .0), eqb→eq (length (r .1)) 54 (sample .0), bits-tested (r .1) (sample .1)), rows-tested rows (parts .1))
+
+-- ---- The lesson
+
+-- It is not the clean one, ..
+pub it-differs : cleanRows ≡ brushedRows → ⊥
+unfolding cleanRows brushedRows evenly rules
+it-differs e = omega (arith, ap (λ (rows : List Row). getD (getD rows 0 (0, []) .1) 5 0) e)
+
+-- .. but for bounces it is, ..
+pub it-is-brushed : Brushed cleanRows brushedRows
+unfolding Brushed cleanRows brushedRows evenly rules allBelow
+it-is-brushed = (
+  refl,
+  tested _ _ refl refl tt,
+  (
+    refl,
+    tested _ _ refl refl tt,
+    (
+      refl,
+      tested _ _ refl refl tt,
+      (
+        refl,
+        tested _ _ refl refl tt,
+        (
+          refl,
+          tested _ _ refl refl tt,
+          (refl, tested _ _ refl refl tt, tt),
+        ),
+      ),
+    ),
+  ),
+)
+
+-- .. every one of which is forgiven.
+pub clean-is-forgiven : AllForgiven (startedAt 0 (freshOf 0)) cleanRows
+unfolding rules startedAt after cleanRows evenly numberOf
+clean-is-forgiven = valid-is-forgiven (startedAt 0 (freshOf 0)) (fresh-is-quiet 0) cleanRows (all-tested _ tt)
+
+pub brushed-is-forgiven : AllForgiven (startedAt 0 (freshOf 0)) brushedRows
+unfolding rules startedAt after brushedRows evenly numberOf
+brushed-is-forgiven = valid-is-forgiven (startedAt 0 (freshOf 0)) (fresh-is-quiet 0) brushedRows (all-tested _ tt)
+
+clean-can : InOneTrace (rowZero ∷ cleanRows)
+unfolding rules cleanRows evenly rowZero
+clean-can = record { each = rows-tested (rowZero ∷ cleanRows) tt; labels = lit≤ tt }
+
+brushed-can : InOneTrace (rowZero ∷ brushedRows)
+unfolding rules brushedRows evenly rowZero
+brushed-can = record { each = rows-tested (rowZero ∷ brushedRows) tt; labels = lit≤ tt }
+
+-- So of the traces that bear the two, rows, dump and image are the same bytes.
+pub brushed-somewhere :
+    (let clean = traceBearing (rowZero ∷ cleanRows) in
+    let brushed = traceBearing (rowZero ∷ brushedRows) in
+    (replayOf clean ≡ replayOf brushed) × (wavesOf clean ≡ wavesOf brushed) × (savedOf (freshOf 0) clean ≡ savedOf (freshOf 0) brushed))
+unfolding rowZero
+brushed-somewhere =
+    brushed-lesson rowZero rowZero cleanRows brushedRows refl it-is-brushed clean-is-forgiven brushed-is-forgiven
+    (traceBearing (rowZero ∷ cleanRows)) (traceBearing (rowZero ∷ brushedRows)) []
+    (a-trace-bears-its-samples (rowZero ∷ cleanRows) clean-can) (a-trace-bears-its-samples (rowZero ∷ brushedRows) brushed-can)
