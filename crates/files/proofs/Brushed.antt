@@ -5,15 +5,15 @@ use Prim.Native.Nat.{ℕ, suc, _+_, _≤_, _<_}
 use native.Mathlib.Omega.{arith}
 use mathlib.Core.Bool.{Bool, true, false, cond}
 use mathlib.Core.List.{List, [], _∷_, _++_, map}
-use mathlib.Core.Path.{_≡_, refl, sym, ap, ap₂, _∙_}
-use lib.Dec.{eqb}
+use mathlib.Core.Path.{_≡_, refl, sym, ap, ap₂, subst, _∙_}
+use lib.Dec.{eqb, eqb→eq}
 use lib.ListN.{length, length-map, getD, List·getD-map}
 use Rattle.common.specs.Lists.{eachFrom}
 use Rattle.voter.specs.declared.Voter.{Voter}
 use Rattle.voter.specs.declared.Channels.the-variants.{All}
 use Rattle.voter.specs.Voting.{uncounted, freshWith, valueOf}
 use Rattle.voter.specs.Items.{countDropped}
-use Rattle.voter.specs.Runs.{Reading, majority, heard}
+use Rattle.voter.specs.Runs.{Reading, oddIn, majority, heard}
 use Rattle.voter.proofs.Laws.{all-were-valid, value-is-of-the-majority}
 use Rattle.voter.proofs.Mirrors.{fresh-loses-nothing, dropped-has-the-value}
 use Rattle.voter.proofs.InARow.{all-valid-exactly}
@@ -43,7 +43,7 @@ use Rattle.handing.proofs.Saving.{image-left}
 use Rattle.files.specs.Left.{leftOf}
 use Rattle.files.specs.Traces.{Body, Bears, bodyOf, fileOf, bodiesTo}
 use Rattle.files.proofs.Traces.{what-it-bears-is-answered, left-of-it, row-0-was-read}
-use Rattle.files.specs.Brushed.{SameButForBounces, Brushed, AllForgiven, butForCounts}
+use Rattle.files.specs.Brushed.{Clean, SameButForBounces, Brushed, AllForgiven, butForCounts}
 
 -- ---- What votes say is not the counts
 
@@ -212,6 +212,38 @@ valid-is-forgiven s quiet rows all i within =
     all-valid-exactly (sensorAt i s) (quiet i within .0) (quiet i within .1) (readingsAt i s rows) .0
     (ap (λ (v : Voter). v .channels) (sym (hears-the-accepted i s within rows)) ∙
     each-at-index (λ (v : Voter). v .channels ≡ All) (after s rows .voters) all i (omega (arith, as-many s rows)))
+
+-- ---- A clean lesson has no bounce to forgive.
+
+-- In none of these readings a channel is the odd one.
+NoneOdd : List Reading → Type 0
+NoneOdd [] = Unit {0}
+NoneOdd (r ∷ rs) = (oddIn r ≡ 0) × NoneOdd rs
+
+none-odd : (i : ℕ) → i < sensorCount → (s : State) (rows : List Row) → Clean rows → NoneOdd (readingsAt i s rows)
+unfolding readingsAt NoneOdd
+none-odd i within s [] clean = tt
+none-odd i within s (r ∷ rows) clean =
+    by (eqb (stepOf s (r .0) (r .1) .refusal) 0) (none-odd i within (next s r) rows (clean .1))
+  where
+    by : (isTaken : Bool) → NoneOdd (readingsAt i (next s r) rows)
+        → NoneOdd (cond isTaken (readingAt i (r .1) ∷ readingsAt i (next s r) rows) (readingsAt i (next s r) rows))
+    by true more = (clean .0 i within, more)
+    by false more = more
+
+not-odd : (earlier : List Reading) (r : Reading) (later : List Reading) → NoneOdd (earlier ++ r ∷ later) → oddIn r ≡ 0
+unfolding NoneOdd
+not-odd [] r later none = none .0
+not-odd (q ∷ earlier) r later none = not-odd earlier r later (none .1)
+
+pub clean-is-forgiven : (s : State) → length (s .voters) ≡ sensorCount → (rows : List Row) → Clean rows → AllForgiven s rows
+clean-is-forgiven s eighteen rows clean i within k row =
+    let none = subst NoneOdd (row .inARow) (none-odd i (omega arith) s rows clean) in
+    let quiet = not-odd (row .earlier) (row .first) (row .second ∷ row .third ∷ row .later) none in
+    let odd = eqb→eq (oddIn (row .first)) k (row .odd .0) in
+    omega (arith, row .channel, quiet, odd)
+
+-- ---- A lesson and the same lesson brushed
 
 module _
     (s : State) (reached : Reached s) (quiet : AllQuiet s) (rows others : List Row) (brushed : Brushed rows others)

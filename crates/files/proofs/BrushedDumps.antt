@@ -44,10 +44,10 @@ use Rattle.dumping.specs.Moments.{wiresOf, at, adds, timeAfter, momentsAfter, m
 use Rattle.dumping.proofs.Whole.{no-moments}
 use Rattle.files.specs.Traces.{Bearable, AllBearable, rowsBearing, rowsFor, dueBehind, Ending, Bears}
 use Rattle.files.specs.Traces.Ending.{at-end, at-refusal}
-use Rattle.files.specs.Brushed.{Brushed, AllForgiven, butForCounts}
+use Rattle.files.specs.Brushed.{Clean, Brushed, AllForgiven, butForCounts}
 use Rattle.files.proofs.EachRow.{readAt}
 use Rattle.files.proofs.Traces.{row-read, a-step, next-due, is-due, due-line}
-use Rattle.files.proofs.Brushed.{dropped-says, dropped-shows, EachValid, same-step, valid-before, as-many, forgiven-is-valid, brushed-file, brushed-image}
+use Rattle.files.proofs.Brushed.{dropped-says, dropped-shows, EachValid, same-step, valid-before, as-many, forgiven-is-valid, clean-is-forgiven, brushed-file, brushed-image}
 
 -- ---- What a step adds
 
@@ -182,16 +182,19 @@ brushed-dump s reached quiet start again rows others times brushed forgiven othe
 
 -- ---- From a fresh start: what `replay` writes, what `waves` writes, and what `save` saves
 
-pub brushed-lesson : (start again : Row) (rows others : List Row) → start .0 ≡ again .0 → Brushed rows others
-    → AllForgiven (startedAt (start .0) (freshOf 0)) rows → AllForgiven (startedAt (start .0) (freshOf 0)) others
+-- Of a clean lesson and the same lesson brushed, every bounce forgiven.
+pub brushed-lesson : (start again : Row) (rows others : List Row) → start .0 ≡ again .0 → Clean rows → Brushed rows others
+    → AllForgiven (startedAt (start .0) (freshOf 0)) others
     → (input other ending : List ℕ) → Bears input (start ∷ rows) ending → Bears other (again ∷ others) ending
     → (replayOf input ≡ replayOf other) × (wavesOf input ≡ wavesOf other) × (savedOf (freshOf 0) input ≡ savedOf (freshOf 0) other)
-unfolding wavesOf
-brushed-lesson start again rows others times brushed forgiven otherForgiven input other ending bears otherBears =
+unfolding wavesOf startedAt
+brushed-lesson start again rows others times clean brushed forgiven input other ending bears otherBears =
+    let from : State = startedAt (start .0) (freshOf 0) in
+    let none = clean-is-forgiven from (reached-is-allowed (freshOf 0) (fresh 0) .sensors) rows clean in
     let quiet = fresh-is-quiet 0 in (
       replay-is-fresh input
-          ∙ brushed-file (freshOf 0) (fresh 0) quiet start again rows others times brushed forgiven otherForgiven input other ending bears otherBears
+          ∙ brushed-file (freshOf 0) (fresh 0) quiet start again rows others times brushed none forgiven input other ending bears otherBears
           ∙ sym (replay-is-fresh other),
-      brushed-dump (freshOf 0) (fresh 0) quiet start again rows others times brushed forgiven otherForgiven input other ending ending bears otherBears,
-      brushed-image (freshOf 0) (fresh 0) quiet start again rows others times brushed forgiven otherForgiven input other ending bears otherBears,
+      brushed-dump (freshOf 0) (fresh 0) quiet start again rows others times brushed none forgiven input other ending ending bears otherBears,
+      brushed-image (freshOf 0) (fresh 0) quiet start again rows others times brushed none forgiven input other ending bears otherBears,
     )

@@ -11,7 +11,7 @@ use borrow.Author.Tests.{eqb-true, eqb-false}
 use mir.Facts.{and-yes}
 use Rattle.voter.specs.declared.Voter.{Voter}
 use Rattle.voter.specs.Numbers.{numberOf}
-use Rattle.voter.specs.Runs.{majority}
+use Rattle.voter.specs.Runs.{oddIn, majority}
 use Rattle.voter.proofs.Numbering.{all-by-number}
 use Rattle.trace.specs.Numbers.{greatest}
 use Rattle.trace.specs.Written.{AllBits}
@@ -22,6 +22,7 @@ use Rattle.controller.proofs.Computing.{rules}
 use Rattle.image.specs.Items.{sensorCount}
 use Rattle.image.specs.Rules.{every}
 use Rattle.laws.specs.Evenly.{evenly}
+use Rattle.laws.specs.Lesson.{switchSays}
 use Rattle.laws.specs.Bounces.{readingAt}
 use Rattle.laws.proofs.Bounces.{Each, fresh-is-quiet}
 use Rattle.settling.proofs.Demand3.{same}
@@ -29,7 +30,7 @@ use Rattle.lesson.specs.Replay.{replayOf}
 use Rattle.dumping.specs.Moments.{wavesOf}
 use Rattle.handing.specs.Handing.{savedOf}
 use Rattle.files.specs.Traces.{AllBearable, InOneTrace, traceBearing}
-use Rattle.files.specs.Brushed.{SameButForBounces, Brushed, AllForgiven, rowZero, cleanRows, brushedRows}
+use Rattle.files.specs.Brushed.{Clean, SameButForBounces, Brushed, AllForgiven, rowZero, cleanRows, brushedRows}
 use Rattle.files.proofs.Traces.{a-trace-bears-its-samples}
 use Rattle.files.proofs.Brushed.{EachValid, valid-is-forgiven}
 use Rattle.files.proofs.BrushedDumps.{brushed-lesson}
@@ -112,14 +113,17 @@ it-is-brushed = (
   ),
 )
 
--- .. every one of which is forgiven.
-pub clean-is-forgiven : AllForgiven (startedAt 0 (freshOf 0)) cleanRows
-unfolding rules startedAt after cleanRows evenly numberOf
-clean-is-forgiven = valid-is-forgiven (startedAt 0 (freshOf 0)) (fresh-is-quiet 0) cleanRows (all-tested _ tt)
-
+-- .. every one of which is forgiven, and the other lesson is clean.
 pub brushed-is-forgiven : AllForgiven (startedAt 0 (freshOf 0)) brushedRows
 unfolding rules startedAt after brushedRows evenly numberOf
 brushed-is-forgiven = valid-is-forgiven (startedAt 0 (freshOf 0)) (fresh-is-quiet 0) brushedRows (all-tested _ tt)
+
+clean-tested : (sample : List ℕ) → T (allBelow sensorCount (λ (i : ℕ). eqb (oddIn (readingAt i sample)) 0)) → (i : ℕ) → i < sensorCount → oddIn (readingAt i sample) ≡ 0
+clean-tested sample all i h = eqb→eq _ 0 (below sensorCount (λ (i : ℕ). eqb (oddIn (readingAt i sample)) 0) all i h)
+
+pub it-is-clean : Clean cleanRows
+unfolding cleanRows evenly rules allBelow
+it-is-clean = let clean = clean-tested (switchSays 0 0 0) tt in (clean, (clean, (clean, (clean, (clean, (clean, tt))))))
 
 clean-can : InOneTrace (rowZero ∷ cleanRows)
 unfolding rules cleanRows evenly rowZero
@@ -136,6 +140,6 @@ pub brushed-somewhere :
     (replayOf clean ≡ replayOf brushed) × (wavesOf clean ≡ wavesOf brushed) × (savedOf (freshOf 0) clean ≡ savedOf (freshOf 0) brushed))
 unfolding rowZero
 brushed-somewhere =
-    brushed-lesson rowZero rowZero cleanRows brushedRows refl it-is-brushed clean-is-forgiven brushed-is-forgiven
+    brushed-lesson rowZero rowZero cleanRows brushedRows refl it-is-clean it-is-brushed brushed-is-forgiven
     (traceBearing (rowZero ∷ cleanRows)) (traceBearing (rowZero ∷ brushedRows)) []
     (a-trace-bears-its-samples (rowZero ∷ cleanRows) clean-can) (a-trace-bears-its-samples (rowZero ∷ brushedRows) brushed-can)

@@ -5,7 +5,7 @@ use Prim.Native.Nat.{ℕ, _<_}
 use mathlib.Core.List.{List, [], _∷_}
 use mathlib.Core.Path.{_≡_}
 use lib.ListN.{length, replicate}
-use Rattle.voter.specs.Runs.{majority, ThreeInARow}
+use Rattle.voter.specs.Runs.{oddIn, majority, ThreeInARow}
 use Rattle.controller.specs.declared.State.{State}
 use Rattle.controller.specs.declared.Answer.{Answer}
 use Rattle.controller.specs.Steps.{someOverOne}
@@ -13,11 +13,16 @@ use Rattle.controller.specs.Samples.{Row}
 use Rattle.image.specs.Items.{sensorCount}
 use Rattle.image.specs.Counts.{countsDropped}
 use Rattle.laws.specs.Evenly.{evenly}
-use Rattle.laws.specs.Cases.{switchSays}
+use Rattle.laws.specs.Lesson.{switchSays}
 use Rattle.laws.specs.Bounces.{sensorAt, readingAt, readingsAt}
 
--- Two samples are the same but for bounces: at each of the eighteen sensors the majority says the same. Both are as long, and a byte of both
--- is over 1 or of none.
+-- A clean lesson: in each sample the three channels of each of the eighteen sensors agree.
+abbrev pub Clean : List Row → Type 0
+Clean [] = Unit {0}
+Clean (r ∷ rs) = ((i : ℕ) → i < sensorCount → oddIn (readingAt i (r .1)) ≡ 0) × Clean rs
+
+-- Two samples are the same but for bounces: at each of the eighteen sensors the majority says the same. Both are as long, and some byte is
+-- over 1 in both or in neither.
 pub record SameButForBounces (sample other : List ℕ) : Type 0 where
   pub long : length sample ≡ length other
   pub over : someOverOne sample ≡ someOverOne other
@@ -30,7 +35,7 @@ Brushed [] (q ∷ qs) = ⊥
 Brushed (r ∷ rs) [] = ⊥
 Brushed (r ∷ rs) (q ∷ qs) = (r .0 ≡ q .0) × SameButForBounces (r .1) (q .1) × Brushed rs qs
 
--- Every bounce is forgiven: at no sensor three accepted samples in a row have the same channel as the odd one.
+-- Every bounce is forgiven: at no sensor three accepted samples in a row have the same channel as the odd one while all its channels are valid.
 abbrev pub AllForgiven : State → List Row → Type 0
 AllForgiven s rows = (i : ℕ) → i < length (s .voters) → (k : ℕ) → ThreeInARow k (sensorAt i s) (readingsAt i s rows) → ⊥
 

@@ -14,7 +14,7 @@ use Rattle.voter.specs.declared.Voter.{Voter}
 use Rattle.voter.specs.declared.Channels.the-variants.{All}
 use Rattle.voter.specs.Voting.{freshWith, isInvalid}
 use Rattle.voter.specs.Runs.{Reading, heard, heardAll, isStruck, ThreeInARow}
-use Rattle.voter.proofs.Laws.{fresh-is-quiet as fresh-sensor-is-quiet}
+use Rattle.voter.proofs.Laws.{fresh-sensor-is-quiet}
 use Rattle.voter.proofs.InARow.{struck-exactly}
 use Rattle.controller.specs.declared.State.{State}
 use Rattle.controller.specs.Votes.{votesAt, allVoted}

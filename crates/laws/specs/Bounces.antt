@@ -4,12 +4,12 @@ use mathlib.Core.Bool.{false, cond}
 use mathlib.Core.List.{List, [], _∷_}
 use mathlib.Core.Path.{_≡_}
 use Prim.Native.Nat.{ℕ, _+_, _*_, _<_}
-use lib.Dec.{eqb}
+use lib.Dec.{T, eqb}
 use lib.ListN.{length, getD}
 use Rattle.voter.specs.declared.Voter.{Voter}
 use Rattle.voter.specs.declared.Channels.the-variants.{All}
 use Rattle.voter.specs.Voting.{freshWith}
-use Rattle.voter.specs.Runs.{Reading, CountInRange}
+use Rattle.voter.specs.Runs.{Reading, agree, CountKept}
 use Rattle.controller.specs.declared.State.{State}
 use Rattle.controller.specs.Votes.{channel}
 use Rattle.controller.specs.Steps.{stepOf}
@@ -24,9 +24,9 @@ sensorAt i s = getD (s .voters) i (freshWith false)
 abbrev pub AllQuiet : State → Type 0
 AllQuiet s = (i : ℕ) → i < length (s .voters) → (sensorAt i s .channels ≡ All) × (sensorAt i s .count ≡ 0)
 
--- The odd channel and the count of every sensor are in range.
-abbrev pub CountsInRange : State → Type 0
-CountsInRange s = (i : ℕ) → i < length (s .voters) → CountInRange (sensorAt i s)
+-- The odd channel and the count of every sensor are as votes keep them.
+abbrev pub CountsKept : State → Type 0
+CountsKept s = (i : ℕ) → i < length (s .voters) → CountKept (sensorAt i s)
 
 -- Every count is 0.
 abbrev pub CountsAre0 : State → Type 0
@@ -41,3 +41,7 @@ unfoldable pub readingsAt : ℕ → State → List Row → List Reading
 readingsAt i s [] = []
 readingsAt i s (r ∷ rs) =
     cond (eqb (stepOf s (r .0) (r .1) .refusal) 0) (readingAt i (r .1) ∷ readingsAt i (next s r) rs) (readingsAt i (next s r) rs)
+
+-- At every sensor the valid channels say the same in a sample.
+abbrev pub NoneDiffers : State → List ℕ → Type 0
+NoneDiffers s bytes = (i : ℕ) → i < length (s .voters) → T (agree (sensorAt i s .channels) (readingAt i bytes))

@@ -1,5 +1,5 @@
 -- Document 01, "Both sides of each threshold", P1 to P3 as request K5 changes them: P1 to P12 as one list. P1 to P3 are the voter's, and
--- then P1 with refused samples between; P4 to P12 are worked over whole steps, of the controller or of its core.
+-- then bounces with refused samples between; P4 to P12 are worked over whole steps, of the controller or of its core.
 -- Assumes nothing.
 use mathlib.Core.Bool.{Bool, true, false}
 use mathlib.Core.List.{List, [], _∷_, _++_}
@@ -25,16 +25,13 @@ use Rattle.controller.specs.Votes.{analogicalSwitch}
 use Rattle.controller.specs.Start.{freshOf, freshOrders}
 use Rattle.controller.specs.Stages.{elapsedOf, coreStep}
 use Rattle.controller.specs.Steps.{stepOf}
-use Rattle.controller.specs.Samples.{rest, sees, Row, after}
+use Rattle.controller.specs.Samples.{sees, Row, after}
 use Rattle.laws.specs.Bounces.{sensorAt}
+use Rattle.laws.specs.Lesson.{switchSays}
 
--- ---- P1 with refused samples between
+-- ---- Bounces with refused samples between
 
--- A sample in which the channels of the switch say this; all else is at rest.
-abbrev pub switchSays : ℕ → ℕ → ℕ → List ℕ
-switchSays one two three = 1 ∷ 1 ∷ 1 ∷ one ∷ two ∷ three ∷ rest 1 0 1 0 0
-
--- The switch after such samples from a fresh start at stamp 0, shown as the voter's cases show it.
+-- The switch after samples from a fresh start at stamp 0, shown as the voter's cases show it.
 unfoldable pub switchAfter : List Row → List ℕ
 switchAfter rows = shown (sensorAt analogicalSwitch (after (freshOf 0) rows))
 
@@ -44,9 +41,9 @@ twiceThenRefused refused = (100, switchSays 0 0 1) ∷ (200, switchSays 0 0 1) �
 
 unfoldable pub bounceCases : List Case
 bounceCases =
-    record { name = "P1 a refused sample does not add"; gives = switchAfter (twiceThenRefused (switchSays 0 0 1)); wanted = 0 ∷ 0 ∷ 3 ∷ 2 ∷ [] } ∷
-    record { name = "P1 a refused sample does not reset"; gives = switchAfter (twiceThenRefused (switchSays 0 0 0)); wanted = 0 ∷ 0 ∷ 3 ∷ 2 ∷ [] } ∷
-    record { name = "P1 the third accepted one strikes"; gives = switchAfter (twiceThenRefused (switchSays 0 0 0) ++ (300, switchSays 0 0 1) ∷ []); wanted = 0 ∷ 3 ∷ 0 ∷ 0 ∷ [] } ∷
+    record { name = "a refused sample does not add to a count"; gives = switchAfter (twiceThenRefused (switchSays 0 0 1)); wanted = 0 ∷ 0 ∷ 3 ∷ 2 ∷ [] } ∷
+    record { name = "a refused sample does not reset a count"; gives = switchAfter (twiceThenRefused (switchSays 0 0 0)); wanted = 0 ∷ 0 ∷ 3 ∷ 2 ∷ [] } ∷
+    record { name = "the third accepted one strikes"; gives = switchAfter (twiceThenRefused (switchSays 0 0 0) ++ (300, switchSays 0 0 1) ∷ []); wanted = 0 ∷ 3 ∷ 0 ∷ 0 ∷ [] } ∷
     []
 
 -- ---- A step of the controller

@@ -62,10 +62,13 @@ lessonLines =
     line 0 0 0 0 0 Closed Extended 1 0 ∷
     []
 
+-- A sample in which the channels of the switch say this; all else is at rest.
+abbrev pub switchSays : ℕ → ℕ → ℕ → List ℕ
+switchSays one two three = 1 ∷ 1 ∷ 1 ∷ one ∷ two ∷ three ∷ rest 1 0 1 0 0
+
 -- All at rest but the switch, of which channel 3 differs in three samples and then channel 2 in three: it is struck, then the sensor is
 -- invalid.
 unfoldable pub brokenSwitch : List Row
 brokenSwitch =
     evenly 100 0
-    (replicate 3 (1 ∷ 1 ∷ 1 ∷ 0 ∷ 0 ∷ 1 ∷ rest 1 0 1 0 0) ++
-    replicate 3 (1 ∷ 1 ∷ 1 ∷ 0 ∷ 1 ∷ 0 ∷ rest 1 0 1 0 0))
+    (replicate 3 (switchSays 0 0 1) ++ replicate 3 (switchSays 0 1 0))

@@ -173,9 +173,9 @@ two-tell-the-truth v e truth other =
     )
 
 -- A fresh sensor has all channels valid and its count at 0, ..
-pub fresh-is-quiet : (held : Bool) → (freshWith held .channels ≡ All) × (freshWith held .count ≡ 0)
+pub fresh-sensor-is-quiet : (held : Bool) → (freshWith held .channels ≡ All) × (freshWith held .count ≡ 0)
 unfolding freshWith
-fresh-is-quiet held = (refl, refl)
+fresh-sensor-is-quiet held = (refl, refl)
 
 -- .. so it is not invalid.
 pub fresh-is-valid : (held : Bool) → isInvalid (freshWith held) ≡ false

@@ -5,7 +5,7 @@ pub mod Odd
 pub mod Bounces
 pub mod Splits
 pub mod InARow
-pub mod Ranges
+pub mod Kept
 pub mod Numbering
 pub mod Mirrors
 pub mod Once

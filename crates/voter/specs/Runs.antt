@@ -1,12 +1,13 @@
 -- Request K5 over samples in a row: what its laws speak of, in its words and not by the count. Only accepted samples are heard here.
 -- Assumes nothing.
 use Prim.Native.Nat.{ℕ, _≤_}
-use mathlib.Core.Bool.{Bool, false, not, Bool·beq}
+use mathlib.Core.Bool.{Bool, true, false, not, Bool·beq}
 use mathlib.Core.List.{List, [], _∷_, _++_}
+use mathlib.Core.Logic.{_↔_}
 use mathlib.Core.Path.{_≡_}
 use lib.Dec.{T, eqb}
 use Rattle.common.specs.Bits.{isOne}
-use Rattle.voter.specs.Voting.{oddOf, majorityOf, voted, validChannels}
+use Rattle.voter.specs.Voting.{oddOf, majorityOf, voted, isInvalid, validChannels}
 use Rattle.voter.specs.Numbers.{numberOf}
 use Rattle.voter.specs.declared.Channels.{Channels}
 use Rattle.voter.specs.declared.Channels.the-variants.{All, Without1, Without2, Without3, Nothing}
@@ -42,6 +43,14 @@ areApart Without2 r = not (Bool·beq (r .0) (r .2))
 areApart Without3 r = not (Bool·beq (r .0) (r .1))
 areApart Nothing r = false
 
+-- All channels that are valid say the same.
+abbrev pub agree : Channels → Reading → Bool
+agree All r = eqb (oddIn r) 0
+agree Without1 r = Bool·beq (r .1) (r .2)
+agree Without2 r = Bool·beq (r .0) (r .2)
+agree Without3 r = Bool·beq (r .0) (r .1)
+agree Nothing r = true
+
 -- ---- Votes in a row
 
 -- A sensor after a vote ..
@@ -73,8 +82,11 @@ pub record ThreeInARow (k : ℕ) (v : Voter) (readings : List Reading) : Type 0 
   pub odd : T (isOdd k first) × T (isOdd k second) × T (isOdd k third)
   pub allValid : heardAll v (earlier ++ first ∷ second ∷ []) .channels ≡ All
 
--- Odd channel and count as every vote leaves them: 0 to 3, 0 to 2, and no odd channel where the count is 0.
-pub record CountInRange (v : Voter) : Type 0 where
+-- Odd channel and count as every vote keeps them: 0 to 3 and 0 to 2; with all channels valid there is an odd one exactly if the count is not
+-- 0; with one struck there is none; and with the sensor invalid both are 0.
+pub record CountKept (v : Voter) : Type 0 where
   pub odd : v .odd ≤ 3
   pub count : v .count ≤ 2
-  pub none : v .count ≡ 0 → v .odd ≡ 0
+  pub allValid : v .channels ≡ All → (v .odd ≡ 0) ↔ (v .count ≡ 0)
+  pub oneStruck : T (hasTwo v) → v .odd ≡ 0
+  pub invalid : T (isInvalid v) → (v .odd ≡ 0) × (v .count ≡ 0)
