@@ -5,7 +5,8 @@ use Prim.Native.Nat.{ℕ, suc, _+_, _≤_, _<_}
 use native.Mathlib.Omega.{arith}
 use mathlib.Core.Bool.{Bool, true, false, cond}
 use mathlib.Core.List.{List, [], _∷_, _++_, map}
-use mathlib.Core.Path.{_≡_, refl, sym, ap, ap₂, subst, _∙_}
+use mathlib.Core.Logic.{_↔_}
+use mathlib.Core.Path.{_≡_, refl, sym, ap, ap₂, subst, subst⁻¹, _∙_}
 use lib.Dec.{eqb, eqb→eq}
 use lib.ListN.{length, length-map, getD, List·getD-map}
 use Rattle.common.specs.Lists.{eachFrom}
@@ -13,7 +14,7 @@ use Rattle.voter.specs.declared.Voter.{Voter}
 use Rattle.voter.specs.declared.Channels.the-variants.{All}
 use Rattle.voter.specs.Voting.{uncounted, freshWith, valueOf}
 use Rattle.voter.specs.Items.{countDropped}
-use Rattle.voter.specs.Runs.{Reading, oddIn, majority, heard}
+use Rattle.voter.specs.Runs.{Reading, oddIn, majority, heard, ThreeOdd}
 use Rattle.voter.proofs.Laws.{all-were-valid, value-is-of-the-majority}
 use Rattle.voter.proofs.Mirrors.{fresh-loses-nothing, dropped-has-the-value}
 use Rattle.voter.proofs.InARow.{all-valid-exactly}
@@ -29,10 +30,10 @@ use Rattle.controller.specs.Samples.{Row, answers, after}
 use Rattle.laws.specs.Reached.{Reached}
 use Rattle.laws.specs.Reached.Reached.{started}
 use Rattle.laws.specs.Times.{next}
-use Rattle.laws.specs.Bounces.{sensorAt, readingAt, readingsAt, AllQuiet}
+use Rattle.laws.specs.Bounces.{sensorAt, readingAt, readingsAt, AllValid, AllQuiet}
 use Rattle.laws.proofs.Stages.{stages, coreStages}
 use Rattle.laws.proofs.Lifted.{coreOn, step-keeps, votes-length, reached-is-allowed}
-use Rattle.laws.proofs.Bounces.{Each, each-at-index, each-by-index, hears-the-accepted}
+use Rattle.laws.proofs.Bounces.{Each, each-by-index, hears-the-accepted}
 use Rattle.image.specs.Items.{sensorCount}
 use Rattle.image.specs.Images.{imageOf}
 use Rattle.image.specs.Counts.{countsDropped}
@@ -197,21 +198,22 @@ all-the-same s t (r ∷ rs) (q ∷ qs) eighteen alike brushed all other =
     let more = all-the-same (next s r) (next t q) rs qs (as-many s (r ∷ []) ∙ eighteen) (ap (λ (a : Answer). a .state) first) (brushed .2) all other in
     (cc (first, more .0), more .1)
 
--- Where every bounce is forgiven all channels are valid to the end.
+-- Every bounce is forgiven exactly if all channels are valid at the end.
+pub forgiven-exactly : (s : State) → AllQuiet s → (rows : List Row) → AllForgiven s rows ↔ AllValid (after s rows)
+forgiven-exactly s quiet rows = (λ forgiven i h. at i (there i h) .1 (forgiven i (there i h)), λ valid i h. at i h .0 (valid i (omega (arith, as-many s rows))))
+  where
+    there : (i : ℕ) → i < length (after s rows .voters) → i < length (s .voters)
+    there i h = omega (arith, as-many s rows)
+
+    at : (i : ℕ) → i < length (s .voters)
+        → (sensorAt i (after s rows) .channels ≡ All) ↔ ((k : ℕ) → ThreeOdd k (sensorAt i s) (readingsAt i s rows) → ⊥)
+    at i h =
+        subst⁻¹ (λ (v : Voter). (v .channels ≡ All) ↔ ((k : ℕ) → ThreeOdd k (sensorAt i s) (readingsAt i s rows) → ⊥)) (hears-the-accepted i s h rows)
+        (all-valid-exactly (sensorAt i s) (quiet i h .0) (quiet i h .1) (readingsAt i s rows))
+
 pub forgiven-is-valid : (s : State) → AllQuiet s → (rows : List Row) → AllForgiven s rows → EachValid (after s rows .voters)
 forgiven-is-valid s quiet rows forgiven =
-    each-by-index (λ (v : Voter). v .channels ≡ All) (after s rows .voters)
-    (λ i h.
-    let within : i < length (s .voters) = omega (arith, as-many s rows) in
-    ap (λ (v : Voter). v .channels) (hears-the-accepted i s within rows) ∙
-    all-valid-exactly (sensorAt i s) (quiet i within .0) (quiet i within .1) (readingsAt i s rows) .1 (forgiven i within))
-
--- And where they are every bounce was.
-pub valid-is-forgiven : (s : State) → AllQuiet s → (rows : List Row) → EachValid (after s rows .voters) → AllForgiven s rows
-valid-is-forgiven s quiet rows all i within =
-    all-valid-exactly (sensorAt i s) (quiet i within .0) (quiet i within .1) (readingsAt i s rows) .0
-    (ap (λ (v : Voter). v .channels) (sym (hears-the-accepted i s within rows)) ∙
-    each-at-index (λ (v : Voter). v .channels ≡ All) (after s rows .voters) all i (omega (arith, as-many s rows)))
+    each-by-index (λ (v : Voter). v .channels ≡ All) (after s rows .voters) (forgiven-exactly s quiet rows .0 forgiven)
 
 -- ---- A clean lesson has no bounce to forgive.
 
@@ -238,9 +240,10 @@ not-odd (q ∷ earlier) r later none = not-odd earlier r later (none .1)
 
 pub clean-is-forgiven : (s : State) → length (s .voters) ≡ sensorCount → (rows : List Row) → Clean rows → AllForgiven s rows
 clean-is-forgiven s eighteen rows clean i within k row =
-    let none = subst NoneOdd (row .inARow) (none-odd i (omega arith) s rows clean) in
-    let quiet = not-odd (row .earlier) (row .first) (row .second ∷ row .third ∷ row .later) none in
-    let odd = eqb→eq (oddIn (row .first)) k (row .odd .0) in
+    let three = row .three in
+    let none = subst NoneOdd (three .inARow) (none-odd i (omega arith) s rows clean) in
+    let quiet = not-odd (three .earlier) (three .first) (three .second ∷ three .third ∷ three .later) none in
+    let odd = eqb→eq (oddIn (three .first)) k (row .odd .0) in
     omega (arith, row .channel, quiet, odd)
 
 -- ---- A lesson and the same lesson brushed
@@ -272,17 +275,17 @@ shows-the-same : (answers : List Answer) → map bodyOf answers ≡ map bodyOf (
 shows-the-same [] = refl
 shows-the-same (a ∷ more) = cc (dropped-shows (a .state), shows-the-same more)
 
--- Two inputs that bear a lesson and the same lesson brushed, with any row 0 of the same stamp, and end in the same way: from a reached
--- controller at which all channels are valid and every count is 0 their rows are the same bytes, and so are their images.
+-- Two inputs that bear a lesson and the same lesson brushed, with any row 0 of the same stamp: from a reached controller at which all channels
+-- are valid and every count is 0 their images are the same bytes, and so are their rows where they end in the same way.
 module _
     (s : State) (reached : Reached s) (quiet : AllQuiet s)
     (start again : Row) (rows others : List Row) (times : start .0 ≡ again .0) (brushed : Brushed rows others)
     (forgiven : AllForgiven (startedAt (start .0) s) rows) (otherForgiven : AllForgiven (startedAt (start .0) s) others)
-    (input other ending : List ℕ) (bears : Bears input (start ∷ rows) ending) (otherBears : Bears other (again ∷ others) ending) where
+    (input other : List ℕ) where
   abbrev from : State
   from = startedAt (start .0) s
 
-  pub still-quiet : AllQuiet from
+  still-quiet : AllQuiet from
   unfolding startedAt
   still-quiet = quiet
 
@@ -294,18 +297,19 @@ module _
       ∙ ap (map bodyOf) (brushed-answers-the-same from (started reached (start .0)) still-quiet rows others brushed forgiven otherForgiven)
       ∙ sym (shows-the-same (answers from others))))
 
-  pub brushed-file : resumedOf s input ≡ resumedOf s other
-  brushed-file =
+  pub brushed-file : (ending : List ℕ) → Bears input (start ∷ rows) ending → Bears other (again ∷ others) ending → resumedOf s input ≡ resumedOf s other
+  brushed-file ending bears otherBears =
       what-it-bears-is-answered s input (start ∷ rows) ending bears
       ∙ ap (λ (bs : List Body). fileOf bs ++ ending) same-bodies
       ∙ sym (what-it-bears-is-answered s other (again ∷ others) ending otherBears)
 
-  pub brushed-image : savedOf s input ≡ savedOf s other
+  pub brushed-image : (ending otherEnding : List ℕ) → Bears input (start ∷ rows) ending → Bears other (again ∷ others) otherEnding
+      → savedOf s input ≡ savedOf s other
   unfolding savedOf
-  brushed-image =
+  brushed-image ending otherEnding bears otherBears =
       image-left (leftOf s input) (row-0-was-read s input start rows ending bears)
       ∙ ap imageOf (left-of-it s input start rows ending bears)
       ∙ brushed-leaves-the-image from (started reached (start .0)) still-quiet rows others brushed forgiven otherForgiven
       ∙ sym
-      (image-left (leftOf s other) (row-0-was-read s other again others ending otherBears)
-      ∙ ap imageOf (left-of-it s other again others ending otherBears ∙ ap (λ (stamp : ℕ). after (startedAt stamp s) others) (sym times)))
+      (image-left (leftOf s other) (row-0-was-read s other again others otherEnding otherBears)
+      ∙ ap imageOf (left-of-it s other again others otherEnding otherBears ∙ ap (λ (stamp : ℕ). after (startedAt stamp s) others) (sym times)))

@@ -196,5 +196,5 @@ brushed-lesson start again rows others times clean brushed forgiven input other 
           ∙ brushed-file (freshOf 0) (fresh 0) quiet start again rows others times brushed none forgiven input other ending bears otherBears
           ∙ sym (replay-is-fresh other),
       brushed-dump (freshOf 0) (fresh 0) quiet start again rows others times brushed none forgiven input other ending ending bears otherBears,
-      brushed-image (freshOf 0) (fresh 0) quiet start again rows others times brushed none forgiven input other ending bears otherBears,
+      brushed-image (freshOf 0) (fresh 0) quiet start again rows others times brushed none forgiven input other ending ending bears otherBears,
     )

@@ -5,16 +5,15 @@ use native.Mathlib.Omega.{arith}
 use mathlib.Core.Bool.{Bool, true, false, _&&_, Bool·beq}
 use mathlib.Core.List.{List, [], _∷_, map}
 use mathlib.Core.Path.{_≡_, refl, ap}
-use lib.Dec.{T, eqb, leb, eqb→eq, leb→le, lit≤}
+use lib.Dec.{T, eqb, eqb→eq, lit≤}
 use lib.ListN.{length, getD}
 use borrow.Author.Tests.{eqb-true, eqb-false}
 use mir.Facts.{and-yes}
 use Rattle.voter.specs.declared.Voter.{Voter}
+use Rattle.voter.specs.declared.Channels.the-variants.{All}
 use Rattle.voter.specs.Numbers.{numberOf}
 use Rattle.voter.specs.Runs.{oddIn, majority}
 use Rattle.voter.proofs.Numbering.{all-by-number}
-use Rattle.trace.specs.Numbers.{greatest}
-use Rattle.trace.specs.Written.{AllBits}
 use Rattle.controller.specs.Start.{freshOf, startedAt}
 use Rattle.controller.specs.Steps.{someOverOne}
 use Rattle.controller.specs.Samples.{Row, after}
@@ -24,15 +23,16 @@ use Rattle.image.specs.Rules.{every}
 use Rattle.laws.specs.Evenly.{evenly}
 use Rattle.laws.specs.Lesson.{switchSays}
 use Rattle.laws.specs.Bounces.{readingAt}
-use Rattle.laws.proofs.Bounces.{Each, fresh-is-quiet}
+use Rattle.laws.proofs.Bounces.{Each, each-at-index, fresh-is-quiet}
 use Rattle.settling.proofs.Demand3.{same}
 use Rattle.lesson.specs.Replay.{replayOf}
 use Rattle.dumping.specs.Moments.{wavesOf}
 use Rattle.handing.specs.Handing.{savedOf}
-use Rattle.files.specs.Traces.{AllBearable, InOneTrace, traceBearing}
+use Rattle.files.specs.Traces.{InOneTrace, traceBearing}
 use Rattle.files.specs.Brushed.{Clean, SameButForBounces, Brushed, AllForgiven, rowZero, cleanRows, brushedRows}
 use Rattle.files.proofs.Traces.{a-trace-bears-its-samples}
-use Rattle.files.proofs.Brushed.{EachValid, valid-is-forgiven}
+use Rattle.files.proofs.Bearable.{allBits, allBearable, bearable-tested}
+use Rattle.files.proofs.Brushed.{EachValid, forgiven-exactly}
 use Rattle.files.proofs.BrushedDumps.{brushed-lesson}
 
 -- ---- By tests
@@ -64,22 +64,6 @@ unfolding Each
 all-tested [] all = tt
 all-tested (v ∷ vs) all =
     let parts = and-yes (eqb (numberOf v) 0) _ all in (all-by-number v (eqb→eq (numberOf v) 0 (parts .0)), all-tested vs (parts .1))
-
--- Rows that are tested to be what a trace can bear.
-bits-tested : (bytes : List ℕ) → T (every (map (λ (b : ℕ). leb b 1) bytes)) → AllBits bytes
-bits-tested [] all = tt
-bits-tested (b ∷ bytes) all = let parts = and-yes (leb b 1) _ all in (leb→le b 1 (parts .0), bits-tested bytes (parts .1))
-
-abbrev canBear : Row → Bool
-canBear r = leb (r .0) greatest && (eqb (length (r .1)) 54 && every (map (λ (b : ℕ). leb b 1) (r .1)))
-
-rows-tested : (rows : List Row) → T (every (map canBear rows)) → AllBearable rows
-rows-tested [] all = tt
-rows-tested (r ∷ rows) all =
-    let parts = and-yes (canBear r) _ all in
-    let own = and-yes (leb (r .0) greatest) _ (parts .0) in
-    let sample = and-yes (eqb (length (r .1)) 54) _ (own .1) in
-    ((leb→le (r .0) greatest (own .0), eqb→eq (length (r .1)) 54 (sample .0), bits-tested (r .1) (sample .1)), rows-tested rows (parts .1))
 
 -- ---- The lesson
 
@@ -116,7 +100,10 @@ it-is-brushed = (
 -- .. every one of which is forgiven, and the other lesson is clean.
 pub brushed-is-forgiven : AllForgiven (startedAt 0 (freshOf 0)) brushedRows
 unfolding rules startedAt after brushedRows evenly numberOf
-brushed-is-forgiven = valid-is-forgiven (startedAt 0 (freshOf 0)) (fresh-is-quiet 0) brushedRows (all-tested _ tt)
+brushed-is-forgiven =
+    let left = after (startedAt 0 (freshOf 0)) brushedRows .voters in
+    forgiven-exactly (startedAt 0 (freshOf 0)) (fresh-is-quiet 0) brushedRows .1
+    (each-at-index (λ (v : Voter). v .channels ≡ All) left (all-tested left tt))
 
 clean-tested : (sample : List ℕ) → T (allBelow sensorCount (λ (i : ℕ). eqb (oddIn (readingAt i sample)) 0)) → (i : ℕ) → i < sensorCount → oddIn (readingAt i sample) ≡ 0
 clean-tested sample all i h = eqb→eq _ 0 (below sensorCount (λ (i : ℕ). eqb (oddIn (readingAt i sample)) 0) all i h)
@@ -126,12 +113,12 @@ unfolding cleanRows evenly rules allBelow
 it-is-clean = let clean = clean-tested (switchSays 0 0 0) tt in (clean, (clean, (clean, (clean, (clean, (clean, tt))))))
 
 clean-can : InOneTrace (rowZero ∷ cleanRows)
-unfolding rules cleanRows evenly rowZero
-clean-can = record { each = rows-tested (rowZero ∷ cleanRows) tt; labels = lit≤ tt }
+unfolding rules cleanRows evenly rowZero allBits allBearable
+clean-can = record { each = bearable-tested (rowZero ∷ cleanRows) tt; labels = lit≤ tt }
 
 brushed-can : InOneTrace (rowZero ∷ brushedRows)
-unfolding rules brushedRows evenly rowZero
-brushed-can = record { each = rows-tested (rowZero ∷ brushedRows) tt; labels = lit≤ tt }
+unfolding rules brushedRows evenly rowZero allBits allBearable
+brushed-can = record { each = bearable-tested (rowZero ∷ brushedRows) tt; labels = lit≤ tt }
 
 -- So of the traces that bear the two, rows, dump and image are the same bytes.
 pub brushed-somewhere :

@@ -10,6 +10,7 @@ pub mod Between
 pub mod Later
 pub mod Cutting
 pub mod Traces
+pub mod Bearable
 pub mod Accounts
 pub mod Cut
 pub mod Brushed

@@ -3,18 +3,17 @@
 -- Assumes nothing.
 use Prim.Native.Nat.{ℕ, _+_, _≤_, _<_}
 use native.Mathlib.Omega.{arith}
-use mathlib.Core.Bool.{Bool, true, false, not, _&&_}
+use mathlib.Core.Bool.{Bool, true, false, not}
 use mathlib.Core.List.{List, [], _∷_, _++_, append-assoc}
 use mathlib.Core.Path.{_≡_, refl, sym, ap, subst, subst⁻¹, _∙_}
 use borrow.Author.Tests.{eqb-true}
-use lib.Dec.{T, eqb, leb, eqb→eq, leb→le}
+use lib.Dec.{T, leb→le}
 use lib.ListN.{length}
-use mir.Facts.{and-yes}
 use Rattle.trace.specs.declared.Due.{Due}
 use Rattle.trace.specs.declared.Due.the-variants.{Label}
 use Rattle.trace.specs.Numbers.{greatest}
 use Rattle.trace.specs.Header.{headerText as traceHeader}
-use Rattle.trace.specs.Written.{rowText as traceRowText, AllBits}
+use Rattle.trace.specs.Written.{rowText as traceRowText}
 use Rattle.sequence.specs.Moves.{aimOf}
 use Rattle.controller.specs.declared.State.{State}
 use Rattle.controller.specs.Start.{freshOf, startedAt}
@@ -41,6 +40,7 @@ use Rattle.files.specs.Told.{Told, toldOf, toldFrom, told, Each}
 use Rattle.files.specs.Stretches.{elapsedOver, stateAfter, Stretch}
 use Rattle.files.specs.Between.{Accepts, HandleIs, LooksUnsettledEarly, OfEveryFile, SettlesAt}
 use Rattle.files.specs.Traces.{AllBearable, InOneTrace, rowsBearing, traceBearing, dueBehind}
+use Rattle.files.proofs.Bearable.{allBits, allBearable, bearable-tested}
 use Rattle.files.proofs.EachRow.{readAt}
 use Rattle.files.proofs.Stretches.{stamp-of}
 use Rattle.files.proofs.Traces.{row-read, a-step, next-due, is-due, rows-of-trace}
@@ -166,29 +166,6 @@ accepts down s r rs h =
 
 -- ---- The worst run
 
--- What a trace can bear, as a test.
-unfoldable allBits : List ℕ → Bool
-allBits [] = true
-allBits (b ∷ bs) = leb b 1 && allBits bs
-
-bits-tested : (bs : List ℕ) → T (allBits bs) → AllBits bs
-unfolding allBits
-bits-tested [] h = tt
-bits-tested (b ∷ bs) h = let both = and-yes (leb b 1) (allBits bs) h in (leb→le b 1 (both .0), bits-tested bs (both .1))
-
-unfoldable allBearable : List Row → Bool
-allBearable [] = true
-allBearable (r ∷ rs) = (leb (r .0) greatest && (eqb (length (r .1)) 54 && allBits (r .1))) && allBearable rs
-
-all-tested : (rs : List Row) → T (allBearable rs) → AllBearable rs
-unfolding allBearable
-all-tested [] h = tt
-all-tested (r ∷ rs) h =
-    let both = and-yes (leb (r .0) greatest && (eqb (length (r .1)) 54 && allBits (r .1))) (allBearable rs) h in
-    let one = and-yes (leb (r .0) greatest) (eqb (length (r .1)) 54 && allBits (r .1)) (both .0) in
-    let two = and-yes (eqb (length (r .1)) 54) (allBits (r .1)) (one .1) in
-    ((leb→le (r .0) greatest (one .0), eqb→eq (length (r .1)) 54 (two .0), bits-tested (r .1) (two .1)), all-tested rs (both .1))
-
 -- Row 0 gives the stamp that the run starts at.
 zeroth : Row
 zeroth = (1000, sees 1 0 1 0 1 0 0)
@@ -196,7 +173,7 @@ zeroth = (1000, sees 1 0 1 0 1 0 0)
 worst-bears : InOneTrace (zeroth ∷ firstRow ∷ latest)
 unfolding zeroth allBits allBearable runs rowsFrom stretches closedAtLast firstRow latest
 worst-bears =
-    record { each = all-tested (zeroth ∷ firstRow ∷ latest) tt; labels = leb→le (length (zeroth ∷ firstRow ∷ latest)) (greatest + 1) tt }
+    record { each = bearable-tested (zeroth ∷ firstRow ∷ latest) tt; labels = leb→le (length (zeroth ∷ firstRow ∷ latest)) (greatest + 1) tt }
 
 -- Its last row, with doors seen closed.
 lastRow : Row

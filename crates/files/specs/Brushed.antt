@@ -5,7 +5,7 @@ use Prim.Native.Nat.{ℕ, _<_}
 use mathlib.Core.List.{List, [], _∷_}
 use mathlib.Core.Path.{_≡_}
 use lib.ListN.{length, replicate}
-use Rattle.voter.specs.Runs.{oddIn, majority, ThreeInARow}
+use Rattle.voter.specs.Runs.{oddIn, majority, ThreeOdd}
 use Rattle.controller.specs.declared.State.{State}
 use Rattle.controller.specs.declared.Answer.{Answer}
 use Rattle.controller.specs.Steps.{someOverOne}
@@ -37,7 +37,7 @@ Brushed (r ∷ rs) (q ∷ qs) = (r .0 ≡ q .0) × SameButForBounces (r .1) (q .
 
 -- Every bounce is forgiven: at no sensor three accepted samples in a row have the same channel as the odd one while all its channels are valid.
 abbrev pub AllForgiven : State → List Row → Type 0
-AllForgiven s rows = (i : ℕ) → i < length (s .voters) → (k : ℕ) → ThreeInARow k (sensorAt i s) (readingsAt i s rows) → ⊥
+AllForgiven s rows = (i : ℕ) → i < length (s .voters) → (k : ℕ) → ThreeOdd k (sensorAt i s) (readingsAt i s rows) → ⊥
 
 -- An answer but for the counts.
 abbrev pub butForCounts : Answer → Answer

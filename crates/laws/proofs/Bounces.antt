@@ -1,5 +1,6 @@
 -- Request K5 over the controller's run: a sensor hears the accepted samples, one after the other, and nothing of the refused ones. So while it
--- is not invalid a channel is struck exactly if in three accepted samples in a row it was the odd one while all were valid.
+-- is not invalid a channel is struck exactly if in three accepted samples in a row it was the odd one while all were valid; and it is invalid
+-- exactly if in three in a row the two that were left differed.
 -- Assumes nothing.
 use Prim.Native.Nat.{ℕ, zero, suc, _+_, _≤_, _<_}
 use native.Mathlib.Omega.{arith}
@@ -13,15 +14,17 @@ use Rattle.common.specs.Lists.{eachFrom}
 use Rattle.voter.specs.declared.Voter.{Voter}
 use Rattle.voter.specs.declared.Channels.the-variants.{All}
 use Rattle.voter.specs.Voting.{freshWith, isInvalid}
-use Rattle.voter.specs.Runs.{Reading, heard, heardAll, isStruck, ThreeInARow}
+use Rattle.voter.specs.Runs.{Reading, heard, heardAll, Quiet, isStruck, ThreeOdd, ThreeDiffer}
 use Rattle.voter.proofs.Laws.{fresh-sensor-is-quiet}
 use Rattle.voter.proofs.InARow.{struck-exactly}
+use Rattle.voter.proofs.Splits.{invalid-exactly}
 use Rattle.controller.specs.declared.State.{State}
 use Rattle.controller.specs.Votes.{votesAt, allVoted}
 use Rattle.controller.specs.Start.{freshVoters, freshOf}
 use Rattle.controller.specs.Stages.{accepted}
 use Rattle.controller.specs.Steps.{refusalOf, stepAt, stepOf}
 use Rattle.controller.specs.Samples.{Row, after}
+use Rattle.image.specs.Items.{sensorCount}
 use Rattle.laws.specs.Times.{next}
 use Rattle.laws.specs.Bounces.{sensorAt, AllQuiet, readingAt, readingsAt}
 use Rattle.laws.proofs.Stages.{stages}
@@ -89,16 +92,23 @@ hears-the-accepted i s within [] = refl
 hears-the-accepted i s within (r ∷ rs) =
     hears-the-accepted i (next s r) (within-next i s within r) rs ∙ one-more i s within r (readingsAt i (next s r) rs)
 
--- So a channel is struck exactly by three in a row, from any state in which all channels of its sensor are valid and its count is 0, while it
--- is not invalid.
-pub struck-exactly-over-a-run : (i : ℕ) (s : State) → i < length (s .voters) → sensorAt i s .channels ≡ All → sensorAt i s .count ≡ 0
+-- So while it is not invalid a channel is struck exactly by three in a row, from any state in which all channels of its sensor are valid and
+-- its count is 0; ..
+pub struck-exactly-over-a-run : (i : ℕ) (s : State) → i < length (s .voters) → Quiet (sensorAt i s)
     → (k : ℕ) → 1 ≤ k → (rows : List Row)
     → isInvalid (sensorAt i (after s rows)) ≡ false
-    → T (isStruck k (sensorAt i (after s rows))) ↔ ThreeInARow k (sensorAt i s) (readingsAt i s rows)
-struck-exactly-over-a-run i s within all none k channel rows valid =
+    → T (isStruck k (sensorAt i (after s rows))) ↔ ThreeOdd k (sensorAt i s) (readingsAt i s rows)
+struck-exactly-over-a-run i s within quiet k channel rows valid =
     let is = hears-the-accepted i s within rows in
-    subst⁻¹ (λ (v : Voter). T (isStruck k v) ↔ ThreeInARow k (sensorAt i s) (readingsAt i s rows)) is
-    (struck-exactly (sensorAt i s) all none k channel (readingsAt i s rows) (ap isInvalid (sym is) ∙ valid))
+    subst⁻¹ (λ (v : Voter). T (isStruck k v) ↔ ThreeOdd k (sensorAt i s) (readingsAt i s rows)) is
+    (struck-exactly (sensorAt i s) (quiet .0) (quiet .1) k channel (readingsAt i s rows) (ap isInvalid (sym is) ∙ valid))
+
+-- .. and it is invalid exactly by three in a row in which the two that are left differ.
+pub invalid-exactly-over-a-run : (i : ℕ) (s : State) → i < length (s .voters) → sensorAt i s .channels ≡ All → (rows : List Row)
+    → T (isInvalid (sensorAt i (after s rows))) ↔ ThreeDiffer (sensorAt i s) (readingsAt i s rows)
+invalid-exactly-over-a-run i s within all rows =
+    subst⁻¹ (λ (v : Voter). T (isInvalid v) ↔ ThreeDiffer (sensorAt i s) (readingsAt i s rows)) (hears-the-accepted i s within rows)
+    (invalid-exactly (sensorAt i s) all (readingsAt i s rows))
 
 -- ---- A fresh start is such a state, for each of the eighteen sensors.
 
@@ -112,14 +122,18 @@ fresh-each P of-fresh stamp =
 
 pub fresh-is-quiet : (stamp : ℕ) → AllQuiet (freshOf stamp)
 fresh-is-quiet stamp =
-    each-at-index (λ (v : Voter). (v .channels ≡ All) × (v .count ≡ 0)) (freshOf stamp .voters)
-    (fresh-each (λ (v : Voter). (v .channels ≡ All) × (v .count ≡ 0)) fresh-sensor-is-quiet stamp)
+    each-at-index Quiet (freshOf stamp .voters) (fresh-each Quiet fresh-sensor-is-quiet stamp)
 
-pub struck-exactly-from-a-fresh-start : (stamp i : ℕ) → i < 18 → (k : ℕ) → 1 ≤ k → (rows : List Row)
-    → isInvalid (sensorAt i (after (freshOf stamp) rows)) ≡ false
-    → T (isStruck k (sensorAt i (after (freshOf stamp) rows)))
-    ↔ ThreeInARow k (sensorAt i (freshOf stamp)) (readingsAt i (freshOf stamp) rows)
-unfolding freshOf freshVoters
-struck-exactly-from-a-fresh-start stamp i within =
-    let quiet = fresh-is-quiet stamp i within in
-    struck-exactly-over-a-run i (freshOf stamp) within (quiet .0) (quiet .1)
+module _ (stamp i : ℕ) (within : i < sensorCount) where
+  pub struck-exactly-from-a-fresh-start : (k : ℕ) → 1 ≤ k → (rows : List Row)
+      → isInvalid (sensorAt i (after (freshOf stamp) rows)) ≡ false
+      → T (isStruck k (sensorAt i (after (freshOf stamp) rows)))
+      ↔ ThreeOdd k (sensorAt i (freshOf stamp)) (readingsAt i (freshOf stamp) rows)
+  unfolding freshOf freshVoters
+  struck-exactly-from-a-fresh-start = struck-exactly-over-a-run i (freshOf stamp) within (fresh-is-quiet stamp i within)
+
+  pub invalid-exactly-from-a-fresh-start : (rows : List Row)
+      → T (isInvalid (sensorAt i (after (freshOf stamp) rows)))
+      ↔ ThreeDiffer (sensorAt i (freshOf stamp)) (readingsAt i (freshOf stamp) rows)
+  unfolding freshOf freshVoters
+  invalid-exactly-from-a-fresh-start = invalid-exactly-over-a-run i (freshOf stamp) within (fresh-is-quiet stamp i within .0)

@@ -9,7 +9,7 @@ use lib.ListN.{length, getD}
 use Rattle.voter.specs.declared.Voter.{Voter}
 use Rattle.voter.specs.declared.Channels.the-variants.{All}
 use Rattle.voter.specs.Voting.{freshWith}
-use Rattle.voter.specs.Runs.{Reading, agree, CountKept}
+use Rattle.voter.specs.Runs.{Reading, agree, Quiet, CountKept}
 use Rattle.controller.specs.declared.State.{State}
 use Rattle.controller.specs.Votes.{channel}
 use Rattle.controller.specs.Steps.{stepOf}
@@ -20,9 +20,13 @@ use Rattle.laws.specs.Times.{next}
 abbrev pub sensorAt : ℕ → State → Voter
 sensorAt i s = getD (s .voters) i (freshWith false)
 
--- All channels of every sensor are valid, and every count is 0, as at a fresh start.
+-- All channels of every sensor are valid, ..
+abbrev pub AllValid : State → Type 0
+AllValid s = (i : ℕ) → i < length (s .voters) → sensorAt i s .channels ≡ All
+
+-- .. and every count is 0, as at a fresh start.
 abbrev pub AllQuiet : State → Type 0
-AllQuiet s = (i : ℕ) → i < length (s .voters) → (sensorAt i s .channels ≡ All) × (sensorAt i s .count ≡ 0)
+AllQuiet s = (i : ℕ) → i < length (s .voters) → Quiet (sensorAt i s)
 
 -- The odd channel and the count of every sensor are as votes keep them.
 abbrev pub CountsKept : State → Type 0

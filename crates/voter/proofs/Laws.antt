@@ -9,6 +9,7 @@ use lib.Dec.{T, eqb, lit≤}
 use borrow.Author.Tests.{eqb-true, eqb-false}
 use Rattle.voter.specs.Voting.{oddOf, majorityOf, byOdd, ofThree, ofTwo, votedBy, voted, freshWith, valueOf, noneLeft, isInvalid, validChannels, AgreeWhereCounted}
 use Rattle.voter.specs.Numbers.{channelsNumber, numberOf}
+use Rattle.voter.specs.Runs.{Quiet}
 use Rattle.voter.specs.declared.Channels.{Channels}
 use Rattle.voter.specs.declared.Channels.the-variants.{All, Without1, Without2, Without3, Nothing}
 use Rattle.voter.specs.declared.Voter.{Voter}
@@ -173,7 +174,7 @@ two-tell-the-truth v e truth other =
     )
 
 -- A fresh sensor has all channels valid and its count at 0, ..
-pub fresh-sensor-is-quiet : (held : Bool) → (freshWith held .channels ≡ All) × (freshWith held .count ≡ 0)
+pub fresh-sensor-is-quiet : (held : Bool) → Quiet (freshWith held)
 unfolding freshWith
 fresh-sensor-is-quiet held = (refl, refl)
 

@@ -2,9 +2,10 @@ pub mod Counts
 pub mod Outcomes
 pub mod Laws
 pub mod Odd
-pub mod Bounces
-pub mod Splits
+pub mod Runs
 pub mod InARow
+pub mod Splits
+pub mod Bounces
 pub mod Kept
 pub mod Numbering
 pub mod Mirrors

@@ -6,7 +6,7 @@ use mathlib.Core.Bool.{Bool, true, false, cond, not, Bool·beq}
 use mathlib.Core.Path.{_≡_, refl}
 use lib.Dec.{eqb, leb}
 use borrow.Author.Tests.{eqb-true, eqb-false, leb-true, leb-false}
-use Rattle.voter.specs.Voting.{sensor, uncounted, third, oddInARow, byOdd, apartInARow, ofTwo}
+use Rattle.voter.specs.Voting.{sensor, uncounted, third, oddInARow, byOdd, differInARow, ofTwo}
 use Rattle.voter.specs.Numbers.{channelsAt}
 use Rattle.voter.specs.declared.Channels.the-variants.{All, Nothing}
 use Rattle.voter.specs.declared.Voter.{Voter}
@@ -38,19 +38,19 @@ of-three v odd value = by (eqb odd 0) (leb third (oddInARow v odd)) refl refl
 -- They agree; they differ, and so many in a row are not too many; or the sensor is invalid.
 pub data OfTwo (v : Voter) (apart : Bool) : Voter → Type 0 where
   together : (value : Bool) → apart ≡ false → OfTwo v apart (uncounted (v .channels) value)
-  doubted : apart ≡ true → apartInARow v < third → OfTwo v apart (sensor (v .channels) (v .held) 0 (apartInARow v))
-  lost : apart ≡ true → third ≤ apartInARow v → OfTwo v apart (uncounted Nothing (v .held))
+  doubted : apart ≡ true → differInARow v < third → OfTwo v apart (sensor (v .channels) (v .held) 0 (differInARow v))
+  lost : apart ≡ true → third ≤ differInARow v → OfTwo v apart (uncounted Nothing (v .held))
 
 pub of-two : (v : Voter) (a b : Bool) → OfTwo v (not (Bool·beq a b)) (ofTwo v a b)
 unfolding ofTwo
-of-two v a b = by (Bool·beq a b) (leb third (apartInARow v)) refl
+of-two v a b = by (Bool·beq a b) (leb third (differInARow v)) refl
   where
     by :
         (agree over : Bool) →
-        leb third (apartInARow v) ≡ over →
+        leb third (differInARow v) ≡ over →
         OfTwo v (not agree)
         (cond agree (uncounted (v .channels) a)
-        (cond over (uncounted Nothing (v .held)) (sensor (v .channels) (v .held) 0 (apartInARow v))))
+        (cond over (uncounted Nothing (v .held)) (sensor (v .channels) (v .held) 0 (differInARow v))))
     by true over o = together a refl
-    by false true o = lost refl (leb-true third (apartInARow v) o)
-    by false false o = doubted refl (leb-false third (apartInARow v) o)
+    by false true o = lost refl (leb-true third (differInARow v) o)
+    by false false o = doubted refl (leb-false third (differInARow v) o)

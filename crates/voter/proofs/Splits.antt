@@ -1,25 +1,34 @@
--- Request K5 with two valid channels, in its words: what one, two and three samples in which they differ do.
+-- Request K5 with two valid channels, in its words: over any number of samples the sensor is invalid exactly if somewhere three in a row had
+-- the two differ. So a strike begins the count at 0, and agreement sets it to 0.
 -- Assumes nothing.
-use Prim.Native.Nat.{_+_, _≤_}
+use Prim.Native.Nat.{ℕ, zero, suc, _+_, _≤_}
 use native.Mathlib.Omega.{arith}
-use mathlib.Core.List.{[], _∷_}
-use mathlib.Core.Logic.{_↔_}
-use mathlib.Core.Path.{_≡_, _∙_, refl, subst, subst⁻¹}
+use mathlib.Core.Bool.{Bool, false}
+use mathlib.Core.List.{List, [], _∷_, _++_, append-assoc}
+use mathlib.Core.Logic.{_↔_, _⊎_, inl, inr}
+use mathlib.Core.Path.{_≡_, _∙_, refl, sym, ap, subst, subst⁻¹}
 use lib.Dec.{T, eqb}
-use Rattle.voter.specs.Voting.{votedBy, voted, valueOf, noneLeft, isInvalid, validChannels}
-use Rattle.voter.specs.Runs.{Reading, areApart, heard, heardAll, hasTwo}
+use Rattle.voter.specs.Voting.{differInARow, freshWith, votedBy, voted, valueOf, noneLeft, isInvalid, validChannels}
+use Rattle.voter.specs.Numbers.{channelsAt}
+use Rattle.voter.specs.Runs.{Reading, oddIn, differ, heard, heardAll, hasTwo, ThreeDiffer}
 use Rattle.voter.specs.declared.Channels.{Channels}
 use Rattle.voter.specs.declared.Channels.the-variants.{All, Without1, Without2, Without3, Nothing}
 use Rattle.voter.specs.declared.Voter.{Voter}
+use Rattle.voter.proofs.Laws.{all-is-valid}
+use Rattle.voter.proofs.Odd.{odd-to-3, comes, Comes}
 use Rattle.voter.proofs.Outcomes.{OfTwo, of-two}
+use Rattle.voter.proofs.Outcomes.OfThree.{agreed, suspected, struck}
 use Rattle.voter.proofs.Outcomes.OfTwo.{together, doubted, lost}
+use Rattle.voter.proofs.Runs.{at-the-end, three-later, heard-in-turn, heard-last, over-readings, still-gone, stays-gone}
+
+-- ---- One sample
 
 -- What a vote comes to.
-comes-of-two : (v : Voter) → T (hasTwo v) → (r : Reading) → OfTwo v (areApart (v .channels) r) (heard v r)
+comes-of-two : (v : Voter) → T (hasTwo v) → (r : Reading) → OfTwo v (differ (v .channels) r) (heard v r)
 unfolding voted votedBy validChannels
 comes-of-two v left r = by (v .channels) left
   where
-    by : (ch : Channels) → T (eqb (validChannels ch) 2) → OfTwo v (areApart ch r) (votedBy ch v (r .0) (r .1) (r .2))
+    by : (ch : Channels) → T (eqb (validChannels ch) 2) → OfTwo v (differ ch r) (votedBy ch v (r .0) (r .1) (r .2))
     by All left = absurd left
     by Without1 left = of-two v (r .1) (r .2)
     by Without2 left = of-two v (r .0) (r .2)
@@ -27,117 +36,201 @@ comes-of-two v left r = by (v .channels) left
     by Nothing left = absurd left
 
 -- At every sample in which they differ the last value is kept, at the third too.
-pub split-keeps-the-value : (v : Voter) → T (hasTwo v) → (r : Reading) → T (areApart (v .channels) r) → valueOf (heard v r) ≡ valueOf v
+kept-by-a-split : (v : Voter) → T (hasTwo v) → (r : Reading) → T (differ (v .channels) r) → valueOf (heard v r) ≡ valueOf v
 unfolding valueOf
-split-keeps-the-value v left r apart = by (heard v r) (comes-of-two v left r)
+kept-by-a-split v left r apart = by (heard v r) (comes-of-two v left r)
   where
-    by : (w : Voter) → OfTwo v (areApart (v .channels) r) w → w .held ≡ v .held
+    by : (w : Voter) → OfTwo v (differ (v .channels) r) w → w .held ≡ v .held
     by w (together value same) = absurd (subst T same apart)
-    by w (doubted differ few) = refl
-    by w (lost differ many) = refl
+    by w (doubted differs few) = refl
+    by w (lost differs many) = refl
 
--- While fewer than two were counted the channels stay, and the count grows by one at most.
-still-two : (v : Voter) → T (hasTwo v) → v .count ≤ 1 → (r : Reading) → (heard v r .channels ≡ v .channels) × (heard v r .count ≤ v .count + 1)
-still-two v left few r = by (heard v r) (comes-of-two v left r)
-  where
-    by : (w : Voter) → OfTwo v (areApart (v .channels) r) w → (w .channels ≡ v .channels) × (w .count ≤ v .count + 1)
-    by w (together value same) = (refl, omega arith)
-    by w (doubted differ few) = (refl, omega arith)
-    by w (lost differ many) = absurd (omega arith)
+pub split-keeps-the-value :
+    (v : Voter) (rs : List Reading) (r : Reading) →
+    (let before = heardAll v rs in
+    T (hasTwo before) →
+    T (differ (before .channels) r) →
+    valueOf (heardAll v (rs ++ r ∷ [])) ≡ valueOf before)
+split-keeps-the-value v rs r left apart = ap valueOf (heard-last v rs r) ∙ kept-by-a-split (heardAll v rs) left r apart
 
--- Counted, they differed ..
-counted-was-apart : (v : Voter) → T (hasTwo v) → (r : Reading) → 1 ≤ heard v r .count → T (areApart (v .channels) r) × (heard v r .count ≤ v .count + 1)
-counted-was-apart v left r some = by (heard v r) (comes-of-two v left r) some
-  where
-    by : (w : Voter) → OfTwo v (areApart (v .channels) r) w → 1 ≤ w .count → T (areApart (v .channels) r) × (w .count ≤ v .count + 1)
-    by w (together value same) some = absurd (omega arith)
-    by w (doubted differ few) some = (subst⁻¹ T differ tt, omega arith)
-    by w (lost differ many) some = absurd (omega arith)
-
--- .. and invalid, they differ with two counted before.
-lost-was-apart : (v : Voter) → T (hasTwo v) → (r : Reading) → T (isInvalid (heard v r)) → T (areApart (v .channels) r) × (2 ≤ v .count)
+-- With two valid channels a sensor is not invalid.
+pub two-are-valid : (v : Voter) → T (hasTwo v) → isInvalid v ≡ false
 unfolding isInvalid validChannels
-lost-was-apart v left r invalid = by (heard v r) (comes-of-two v left r) invalid
+two-are-valid v left = by (v .channels) left
   where
-    valid : (ch : Channels) → T (eqb (validChannels ch) 2) → T (noneLeft ch) → ⊥
-    valid All h none = none
-    valid Without1 h none = none
-    valid Without2 h none = none
-    valid Without3 h none = none
-    valid Nothing h none = h
+    by : (ch : Channels) → T (eqb (validChannels ch) 2) → noneLeft ch ≡ false
+    by All left = refl
+    by Without1 left = refl
+    by Without2 left = refl
+    by Without3 left = refl
+    by Nothing left = absurd left
 
-    by : (w : Voter) → OfTwo v (areApart (v .channels) r) w → T (noneLeft (w .channels)) → T (areApart (v .channels) r) × (2 ≤ v .count)
-    by w (together value same) none = absurd (valid (v .channels) left none)
-    by w (doubted differ few) none = absurd (valid (v .channels) left none)
-    by w (lost differ many) none = (subst⁻¹ T differ tt, omega arith)
+-- A strike leaves two.
+strike-leaves-two : (k : ℕ) → 1 ≤ k → k ≤ 3 → T (eqb (validChannels (channelsAt k)) 2)
+unfolding channelsAt validChannels
+strike-leaves-two zero low high = absurd (omega arith)
+strike-leaves-two (suc zero) low high = tt
+strike-leaves-two (suc (suc zero)) low high = tt
+strike-leaves-two (suc (suc (suc zero))) low high = tt
+strike-leaves-two (suc (suc (suc (suc k)))) low high = absurd (omega arith)
 
--- They differ: it is counted, or with two counted before the sensor is invalid.
-apart-is-counted : (v : Voter) → T (hasTwo v) → v .count ≤ 1 → (r : Reading) → T (areApart (v .channels) r) → heard v r .count ≡ v .count + 1
-apart-is-counted v left few r apart = by (heard v r) (comes-of-two v left r)
+-- ---- What has been heard tells what was counted
+
+-- Behind a sensor that has heard these readings: all channels are valid; two are, and none of the last readings, the last one or the last two
+-- had them differ; or none is left, and somewhere three in a row had.
+data Behind (v : Voter) : List Reading → Voter → Type 0 where
+  all : {rs : List Reading} {w : Voter} → w .channels ≡ All → Behind v rs w
+  nothing : {rs : List Reading} {w : Voter} → T (hasTwo w) → w .count ≡ 0 → Behind v rs w
+  one :
+      (rs : List Reading) (a : Reading) {w : Voter} →
+      T (hasTwo w) → heardAll v rs .channels ≡ w .channels → w .count ≡ 1 → T (differ (w .channels) a) →
+      Behind v (rs ++ a ∷ []) w
+  two :
+      (rs : List Reading) (a b : Reading) {w : Voter} →
+      T (hasTwo w) → heardAll v rs .channels ≡ w .channels → w .count ≡ 2 → T (differ (w .channels) a) → T (differ (w .channels) b) →
+      Behind v (rs ++ a ∷ b ∷ []) w
+  end : {rs : List Reading} {w : Voter} → w .channels ≡ Nothing → ThreeDiffer v rs → Behind v rs w
+
+module _ (v : Voter) (r : Reading) where
+  -- Behind a further vote, by what was behind the sensor before it.
+  from-all : (rs : List Reading) (w u : Voter) → Comes w r u → Behind v (rs ++ r ∷ []) u
+  from-all rs w u (agreed quiet) = all refl
+  from-all rs w u (suspected low few) = all refl
+  from-all rs w u (struck low many) = nothing (strike-leaves-two (oddIn r) low (odd-to-3 r)) refl
+
+  from-nothing :
+      (rs : List Reading) (w : Voter) →
+      w ≡ heardAll v rs → T (hasTwo w) → w .count ≡ 0 →
+      (u : Voter) → OfTwo w (differ (w .channels) r) u → Behind v (rs ++ r ∷ []) u
+  from-nothing rs w is left none u (together value same) = nothing left refl
+  from-nothing rs w is left none u (doubted differs few) =
+      let counted : differInARow w ≡ 1 = omega arith in one rs r left (ap (λ (x : Voter). x .channels) (sym is)) counted (subst⁻¹ T differs tt)
+  from-nothing rs w is left none u (lost differs many) = absurd (omega arith)
+
+  from-one :
+      (rs : List Reading) (a : Reading) (w : Voter) →
+      T (hasTwo w) → heardAll v rs .channels ≡ w .channels → w .count ≡ 1 → T (differ (w .channels) a) →
+      (u : Voter) → OfTwo w (differ (w .channels) r) u → Behind v ((rs ++ a ∷ []) ++ r ∷ []) u
+  from-one rs a w left same counted first u (together value agree) = nothing left refl
+  from-one rs a w left same once first u (doubted differs few) =
+      let twice : differInARow w ≡ 2 = omega arith in
+      subst⁻¹ (λ (l : List Reading). Behind v l u) (append-assoc rs (a ∷ []) (r ∷ []))
+      (two rs a r left same twice first (subst⁻¹ T differs tt))
+  from-one rs a w left same counted first u (lost differs many) = absurd (omega arith)
+
+  from-two :
+      (rs : List Reading) (a b : Reading) (w : Voter) →
+      T (hasTwo w) → heardAll v rs .channels ≡ w .channels → w .count ≡ 2 → T (differ (w .channels) a) → T (differ (w .channels) b) →
+      (u : Voter) → OfTwo w (differ (w .channels) r) u → Behind v ((rs ++ a ∷ b ∷ []) ++ r ∷ []) u
+  from-two rs a b w left same counted first second u (together value agree) = nothing left refl
+  from-two rs a b w left same counted first second u (doubted differs few) = absurd (omega arith)
+  from-two rs a b w left same counted first second u (lost differs many) =
+      end refl
+      (record {
+        three = at-the-end rs a b r;
+        twoValid = subst⁻¹ (λ (ch : Channels). T (eqb (validChannels ch) 2)) same left;
+        differing = subst⁻¹ (λ (ch : Channels). T (differ ch a) × T (differ ch b) × T (differ ch r)) same (first, second, subst⁻¹ T differs tt);
+      })
+
+-- One more reading is behind it.
+one-later : (v : Voter) (rs : List Reading) (r : Reading) → ThreeDiffer v rs → ThreeDiffer v (rs ++ r ∷ [])
+one-later v rs r h = record { three = three-later rs r (h .three); twoValid = h .twoValid; differing = h .differing }
+
+next-behind : (v : Voter) (rs : List Reading) (w : Voter) → w ≡ heardAll v rs → Behind v rs w → (r : Reading) → Behind v (rs ++ r ∷ []) (heard w r)
+next-behind v rs w is (all valid) r = from-all v r rs w (heard w r) (comes w valid r)
+next-behind v rs w is (nothing left none) r = from-nothing v r rs w is left none (heard w r) (comes-of-two w left r)
+next-behind v rs w is (one rs₀ a left same counted first) r =
+    from-one v r rs₀ a w left same counted first (heard w r) (comes-of-two w left r)
+next-behind v rs w is (two rs₀ a b left same counted first second) r =
+    from-two v r rs₀ a b w left same counted first second (heard w r) (comes-of-two w left r)
+next-behind v rs w is (end none row) r = end (still-gone w none r) (one-later v rs r row)
+
+invalid-had-three : (v : Voter) → Behind v [] v → (rs : List Reading) → T (isInvalid (heardAll v rs)) → ThreeDiffer v rs
+invalid-had-three v start rs invalid = by (heardAll v rs) invalid (over-readings v (Behind v) start (next-behind v) rs)
   where
-    by : (w : Voter) → OfTwo v (areApart (v .channels) r) w → w .count ≡ v .count + 1
+    by : {rs : List Reading} (w : Voter) → T (isInvalid w) → Behind v rs w → ThreeDiffer v rs
+    by w invalid (all valid) = absurd (subst T (all-is-valid w valid) invalid)
+    by w invalid (nothing left none) = absurd (subst T (two-are-valid w left) invalid)
+    by w invalid (one rs₀ a left same counted first) = absurd (subst T (two-are-valid w left) invalid)
+    by w invalid (two rs₀ a b left same counted first second) = absurd (subst T (two-are-valid w left) invalid)
+    by w invalid (end none row) = row
+
+-- ---- And where three in a row had them differ none is left.
+
+-- They differ: one more is counted, or none is left.
+counted-or-gone :
+    (v : Voter) → T (hasTwo v) → (r : Reading) → T (differ (v .channels) r) →
+    (heard v r .channels ≡ Nothing) ⊎ ((heard v r .channels ≡ v .channels) × (heard v r .count ≡ v .count + 1))
+counted-or-gone v left r apart = by (heard v r) (comes-of-two v left r)
+  where
+    by :
+        (w : Voter) → OfTwo v (differ (v .channels) r) w →
+        (w .channels ≡ Nothing) ⊎ ((w .channels ≡ v .channels) × (w .count ≡ v .count + 1))
     by w (together value same) = absurd (subst T same apart)
-    by w (doubted differ few) = refl
-    by w (lost differ many) = absurd (omega arith)
+    by w (doubted differs few) = inr (refl, refl)
+    by w (lost differs many) = inl refl
 
-apart-is-lost : (v : Voter) → T (hasTwo v) → 2 ≤ v .count → (r : Reading) → T (areApart (v .channels) r) → T (isInvalid (heard v r))
-unfolding isInvalid
-apart-is-lost v left many r apart = by (heard v r) (comes-of-two v left r)
+gone-at-the-third : (v : Voter) → T (hasTwo v) → 2 ≤ v .count → (r : Reading) → T (differ (v .channels) r) → heard v r .channels ≡ Nothing
+gone-at-the-third v left many r apart = by (heard v r) (comes-of-two v left r)
   where
-    by : (w : Voter) → OfTwo v (areApart (v .channels) r) w → T (noneLeft (w .channels))
+    by : (w : Voter) → OfTwo v (differ (v .channels) r) w → w .channels ≡ Nothing
     by w (together value same) = absurd (subst T same apart)
-    by w (doubted differ few) = absurd (omega arith)
-    by w (lost differ many) = tt
+    by w (doubted differs few) = absurd (omega arith)
+    by w (lost differs more) = refl
 
--- ---- With two valid and count 0: after any two samples the sensor is not invalid, and after any three it is exactly if the two differed in
--- all three.
+three-differ-none-is-left :
+    (w : Voter) → T (hasTwo w) → (a b c : Reading) →
+    T (differ (w .channels) a) → T (differ (w .channels) b) → T (differ (w .channels) c) →
+    heard (heard (heard w a) b) c .channels ≡ Nothing
+three-differ-none-is-left w left a b c first second third = after-one (counted-or-gone w left a first)
+  where
+    as-before : (u : Voter) → u .channels ≡ w .channels → T (hasTwo u)
+    as-before u same = subst⁻¹ (λ (ch : Channels). T (eqb (validChannels ch) 2)) same left
 
-module _ (v : Voter) (left : T (hasTwo v)) (none : v .count ≡ 0) (a b : Reading) where
-  once : Voter
-  once = heard v a
+    apart : (u : Voter) → u .channels ≡ w .channels → (r : Reading) → T (differ (w .channels) r) → T (differ (u .channels) r)
+    apart u same r = subst⁻¹ (λ (ch : Channels). T (differ ch r)) same
 
-  twice : Voter
-  twice = heard once b
+    after-two :
+        heard w a .channels ≡ w .channels → heard w a .count ≡ w .count + 1 →
+        (heard (heard w a) b .channels ≡ Nothing) ⊎
+        ((heard (heard w a) b .channels ≡ heard w a .channels) × (heard (heard w a) b .count ≡ heard w a .count + 1)) →
+        heard (heard (heard w a) b) c .channels ≡ Nothing
+    after-two same more (inl none) = still-gone (heard (heard w a) b) none c
+    after-two same more (inr still) =
+        let u = heard (heard w a) b in
+        let now : u .channels ≡ w .channels = still .0 ∙ same in
+        gone-at-the-third u (as-before u now) (omega (arith, more, still .1)) c (apart u now c third)
 
-  two-at-once : once .channels ≡ v .channels
-  unfolding once
-  two-at-once = still-two v left (omega arith) a .0
+    after-one :
+        (heard w a .channels ≡ Nothing) ⊎ ((heard w a .channels ≡ w .channels) × (heard w a .count ≡ w .count + 1)) →
+        heard (heard (heard w a) b) c .channels ≡ Nothing
+    after-one (inl none) = still-gone (heard (heard w a) b) (still-gone (heard w a) none b) c
+    after-one (inr still) =
+        after-two (still .0) (still .1)
+        (counted-or-gone (heard w a) (as-before (heard w a) (still .0)) b (apart (heard w a) (still .0) b second))
 
-  left-once : T (hasTwo once)
-  left-once = subst⁻¹ (λ (ch : Channels). T (eqb (validChannels ch) 2)) two-at-once left
+three-is-invalid : (v : Voter) (rs : List Reading) → ThreeDiffer v rs → T (isInvalid (heardAll v rs))
+unfolding heardAll isInvalid
+three-is-invalid v rs row =
+    let at = row .three in
+    let w = heardAll v (at .earlier) in
+    let apart = row .differing in
+    let gone = three-differ-none-is-left w (row .twoValid) (at .first) (at .second) (at .third) (apart .0) (apart .1) (apart .2) in
+    let now : heardAll v rs ≡ heardAll w (at .first ∷ at .second ∷ at .third ∷ at .later) =
+    ap (heardAll v) (at .inARow) ∙ heard-in-turn v (at .earlier) (at .first ∷ at .second ∷ at .third ∷ at .later)
+    in
+    subst⁻¹ (λ (u : Voter). T (noneLeft (u .channels))) now (subst⁻¹ (λ (ch : Channels). T (noneLeft ch)) (stays-gone _ gone (at .later)) tt)
 
-  two-at-twice : twice .channels ≡ v .channels
-  unfolding once twice
-  two-at-twice = still-two once left-once (omega (arith, still-two v left (omega arith) a .1)) b .0 ∙ two-at-once
+-- From a sensor with all channels valid, ..
+pub invalid-exactly : (v : Voter) → v .channels ≡ All → (rs : List Reading) → T (isInvalid (heardAll v rs)) ↔ ThreeDiffer v rs
+invalid-exactly v valid rs = (invalid-had-three v (all valid) rs, three-is-invalid v rs)
 
-  left-twice : T (hasTwo twice)
-  left-twice = subst⁻¹ (λ (ch : Channels). T (eqb (validChannels ch) 2)) two-at-twice left
+-- .. as a fresh one is, ..
+pub fresh-invalid-exactly : (held : Bool) (rs : List Reading) → T (isInvalid (heardAll (freshWith held) rs)) ↔ ThreeDiffer (freshWith held) rs
+unfolding freshWith
+fresh-invalid-exactly held = invalid-exactly (freshWith held) refl
 
-  pub after-two-both-are-valid : heardAll v (a ∷ b ∷ []) .channels ≡ v .channels
-  unfolding heardAll once twice
-  after-two-both-are-valid = two-at-twice
-
-  module _ (c : Reading) where
-    invalid-was-apart : T (isInvalid (heard twice c)) → T (areApart (v .channels) a) × T (areApart (v .channels) b) × T (areApart (v .channels) c)
-    unfolding once twice
-    invalid-was-apart invalid =
-        let last = lost-was-apart twice left-twice c invalid in
-        let second = counted-was-apart once left-once b (omega (arith, last .1)) in
-        let first = counted-was-apart v left a (omega (arith, last .1, second .1)) in (
-          first .0,
-          subst (λ (ch : Channels). T (areApart ch b)) two-at-once (second .0),
-          subst (λ (ch : Channels). T (areApart ch c)) two-at-twice (last .0),
-        )
-
-    apart-is-invalid : T (areApart (v .channels) a) × T (areApart (v .channels) b) × T (areApart (v .channels) c) → T (isInvalid (heard twice c))
-    unfolding once twice
-    apart-is-invalid apart =
-        let first = apart-is-counted v left (omega arith) a (apart .0) in
-        let second = apart-is-counted once left-once (omega arith) b (subst⁻¹ (λ (ch : Channels). T (areApart ch b)) two-at-once (apart .1)) in
-        apart-is-lost twice left-twice (omega arith) c (subst⁻¹ (λ (ch : Channels). T (areApart ch c)) two-at-twice (apart .2))
-
-    pub invalid-after-three-exactly :
-        T (isInvalid (heardAll v (a ∷ b ∷ c ∷ []))) ↔
-        (T (areApart (v .channels) a) × T (areApart (v .channels) b) × T (areApart (v .channels) c))
-    unfolding heardAll once twice
-    invalid-after-three-exactly = (invalid-was-apart, apart-is-invalid)
+-- .. and from one with two valid and count 0.
+pub invalid-exactly-of-two :
+    (v : Voter) → T (hasTwo v) → v .count ≡ 0 → (rs : List Reading) → T (isInvalid (heardAll v rs)) ↔ ThreeDiffer v rs
+invalid-exactly-of-two v left none rs = (invalid-had-three v (nothing left none) rs, three-is-invalid v rs)

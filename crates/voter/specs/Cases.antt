@@ -18,8 +18,8 @@ unfoldable pub shown : Voter → List ℕ
 shown v = bit (valueOf v) ∷ numberOf v ∷ v .odd ∷ v .count ∷ []
 
 -- A fresh sensor that held 0, after these readings.
-unfoldable pub gives : String → List Reading → List ℕ → Case
-gives name readings wanted = record { name = name; gives = shown (heardAll (freshWith false) readings); wanted = wanted }
+unfoldable pub afterReadings : String → List Reading → List ℕ → Case
+afterReadings name readings wanted = record { name = name; gives = shown (heardAll (freshWith false) readings); wanted = wanted }
 
 -- P1: 1,1,0 twice, and three times.
 unfoldable pub twice : List Reading
@@ -30,24 +30,24 @@ afterP1 = twice ++ says 1 1 0 ∷ []
 
 unfoldable pub voterCases : List Case
 voterCases =
-    gives "P1 fresh vote 1,1,0: value 1, all valid" (says 1 1 0 ∷ []) (1 ∷ 0 ∷ 3 ∷ 1 ∷ []) ∷
-    gives "P1 twice: value 1, all valid" twice (1 ∷ 0 ∷ 3 ∷ 2 ∷ []) ∷
-    gives "P1 three times: value 1, channel 3 struck" afterP1 (1 ∷ 3 ∷ 0 ∷ 0 ∷ []) ∷
-    gives "P2 then 1,0 on the others: 1 kept" (afterP1 ++ says 1 0 1 ∷ []) (1 ∷ 3 ∷ 0 ∷ 1 ∷ []) ∷
-    gives "P2 twice: 1 kept, valid" (afterP1 ++ says 1 0 1 ∷ says 1 0 0 ∷ []) (1 ∷ 3 ∷ 0 ∷ 2 ∷ []) ∷
-    gives "P2 three times: invalid, 1 kept" (afterP1 ++ says 1 0 1 ∷ says 1 0 0 ∷ says 1 0 0 ∷ []) (1 ∷ 4 ∷ 0 ∷ 0 ∷ []) ∷
-    gives "P3 after P1, 1,1,1: channel 3 stays struck" (afterP1 ++ says 1 1 1 ∷ []) (1 ∷ 3 ∷ 0 ∷ 0 ∷ []) ∷
+    afterReadings "P1 fresh vote 1,1,0: value 1, all valid" (says 1 1 0 ∷ []) (1 ∷ 0 ∷ 3 ∷ 1 ∷ []) ∷
+    afterReadings "P1 twice: value 1, all valid" twice (1 ∷ 0 ∷ 3 ∷ 2 ∷ []) ∷
+    afterReadings "P1 three times: value 1, channel 3 struck" afterP1 (1 ∷ 3 ∷ 0 ∷ 0 ∷ []) ∷
+    afterReadings "P2 then 1,0 on the others: 1 kept" (afterP1 ++ says 1 0 1 ∷ []) (1 ∷ 3 ∷ 0 ∷ 1 ∷ []) ∷
+    afterReadings "P2 twice: 1 kept, valid" (afterP1 ++ says 1 0 1 ∷ says 1 0 0 ∷ []) (1 ∷ 3 ∷ 0 ∷ 2 ∷ []) ∷
+    afterReadings "P2 three times: invalid, 1 kept" (afterP1 ++ says 1 0 1 ∷ says 1 0 0 ∷ says 1 0 0 ∷ []) (1 ∷ 4 ∷ 0 ∷ 0 ∷ []) ∷
+    afterReadings "P3 after P1, 1,1,1: channel 3 stays struck" (afterP1 ++ says 1 1 1 ∷ []) (1 ∷ 3 ∷ 0 ∷ 0 ∷ []) ∷
     -- beside them: three valid
-    gives "agreement sets the count to 0" (twice ++ says 1 1 1 ∷ []) (1 ∷ 0 ∷ 0 ∷ 0 ∷ []) ∷
-    gives "after agreement it starts again" (twice ++ says 1 1 1 ∷ says 1 1 0 ∷ []) (1 ∷ 0 ∷ 3 ∷ 1 ∷ []) ∷
-    gives "another odd channel starts again at 1" (twice ++ says 1 0 1 ∷ []) (1 ∷ 0 ∷ 2 ∷ 1 ∷ []) ∷
-    gives "and so does the first one after it" (twice ++ says 1 0 1 ∷ says 1 1 0 ∷ []) (1 ∷ 0 ∷ 3 ∷ 1 ∷ []) ∷
-    gives "the value is the majority's at each" (says 1 1 0 ∷ says 0 0 1 ∷ []) (0 ∷ 0 ∷ 3 ∷ 2 ∷ []) ∷
-    gives "and with the strike" (twice ++ says 0 0 1 ∷ []) (0 ∷ 3 ∷ 0 ∷ 0 ∷ []) ∷
+    afterReadings "agreement sets the count to 0" (twice ++ says 1 1 1 ∷ []) (1 ∷ 0 ∷ 0 ∷ 0 ∷ []) ∷
+    afterReadings "after agreement it starts again" (twice ++ says 1 1 1 ∷ says 1 1 0 ∷ []) (1 ∷ 0 ∷ 3 ∷ 1 ∷ []) ∷
+    afterReadings "another odd channel starts again at 1" (twice ++ says 1 0 1 ∷ []) (1 ∷ 0 ∷ 2 ∷ 1 ∷ []) ∷
+    afterReadings "and so does the first one after it" (twice ++ says 1 0 1 ∷ says 1 1 0 ∷ []) (1 ∷ 0 ∷ 3 ∷ 1 ∷ []) ∷
+    afterReadings "the value is the majority's at each" (says 1 1 0 ∷ says 0 0 1 ∷ []) (0 ∷ 0 ∷ 3 ∷ 2 ∷ []) ∷
+    afterReadings "and with the strike" (twice ++ says 0 0 1 ∷ []) (0 ∷ 3 ∷ 0 ∷ 0 ∷ []) ∷
     -- two valid
-    gives "agreement of two sets the count to 0" (afterP1 ++ says 1 0 0 ∷ says 1 0 0 ∷ says 0 0 1 ∷ []) (0 ∷ 3 ∷ 0 ∷ 0 ∷ []) ∷
-    gives "after it they start again" (afterP1 ++ says 1 0 0 ∷ says 1 0 0 ∷ says 0 0 1 ∷ says 1 0 1 ∷ []) (0 ∷ 3 ∷ 0 ∷ 1 ∷ []) ∷
-    gives "in which way they differ makes no difference" (afterP1 ++ says 1 0 1 ∷ says 0 1 1 ∷ says 1 0 0 ∷ []) (1 ∷ 4 ∷ 0 ∷ 0 ∷ []) ∷
+    afterReadings "agreement of two sets the count to 0" (afterP1 ++ says 1 0 0 ∷ says 1 0 0 ∷ says 0 0 1 ∷ []) (0 ∷ 3 ∷ 0 ∷ 0 ∷ []) ∷
+    afterReadings "after it they start again" (afterP1 ++ says 1 0 0 ∷ says 1 0 0 ∷ says 0 0 1 ∷ says 1 0 1 ∷ []) (0 ∷ 3 ∷ 0 ∷ 1 ∷ []) ∷
+    afterReadings "in which way they differ makes no difference" (afterP1 ++ says 1 0 1 ∷ says 0 1 1 ∷ says 1 0 0 ∷ []) (1 ∷ 4 ∷ 0 ∷ 0 ∷ []) ∷
     -- until request K6 an image drops the count
     record { name = "a sensor back from its items: the count is 0"; gives = shown (sensorIn (sensorItems (heardAll (freshWith false) twice))); wanted = 1 ∷ 0 ∷ 0 ∷ 0 ∷ [] } ∷
     []

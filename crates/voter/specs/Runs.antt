@@ -1,7 +1,7 @@
 -- Request K5 over samples in a row: what its laws speak of, in its words and not by the count. Only accepted samples are heard here.
 -- Assumes nothing.
 use Prim.Native.Nat.{ℕ, _≤_}
-use mathlib.Core.Bool.{Bool, true, false, not, Bool·beq}
+use mathlib.Core.Bool.{Bool, true, not, Bool·beq}
 use mathlib.Core.List.{List, [], _∷_, _++_}
 use mathlib.Core.Logic.{_↔_}
 use mathlib.Core.Path.{_≡_}
@@ -35,14 +35,6 @@ isOdd k r = eqb (oddIn r) k
 abbrev pub majority : Reading → Bool
 majority r = majorityOf (r .0) (r .1) (r .2)
 
--- The two channels that are left differ.
-abbrev pub areApart : Channels → Reading → Bool
-areApart All r = false
-areApart Without1 r = not (Bool·beq (r .1) (r .2))
-areApart Without2 r = not (Bool·beq (r .0) (r .2))
-areApart Without3 r = not (Bool·beq (r .0) (r .1))
-areApart Nothing r = false
-
 -- All channels that are valid say the same.
 abbrev pub agree : Channels → Reading → Bool
 agree All r = eqb (oddIn r) 0
@@ -50,6 +42,10 @@ agree Without1 r = Bool·beq (r .1) (r .2)
 agree Without2 r = Bool·beq (r .0) (r .2)
 agree Without3 r = Bool·beq (r .0) (r .1)
 agree Nothing r = true
+
+-- They differ.
+abbrev pub differ : Channels → Reading → Bool
+differ channels r = not (agree channels r)
 
 -- ---- Votes in a row
 
@@ -62,6 +58,10 @@ unfoldable pub heardAll : Voter → List Reading → Voter
 heardAll v [] = v
 heardAll v (r ∷ rs) = heardAll (heard v r) rs
 
+-- All channels are valid, and the count is 0: so is a fresh sensor.
+abbrev pub Quiet : Voter → Type 0
+Quiet v = (v .channels ≡ All) × (v .count ≡ 0)
+
 -- One channel is struck, and two are valid.
 abbrev pub hasTwo : Voter → Bool
 hasTwo v = eqb (validChannels (v .channels)) 2
@@ -70,17 +70,29 @@ hasTwo v = eqb (validChannels (v .channels)) 2
 abbrev pub isStruck : ℕ → Voter → Bool
 isStruck k v = eqb (numberOf v) k
 
--- Somewhere three readings in a row have channel k as the odd one, while all channels are valid.
-pub record ThreeInARow (k : ℕ) (v : Voter) (readings : List Reading) : Type 0 where
-  pub channel : 1 ≤ k
+-- Three of some readings in a row, with those before them and behind them.
+pub record ThreeOf (readings : List Reading) : Type 0 where
   pub earlier : List Reading
   pub first : Reading
   pub second : Reading
   pub third : Reading
   pub later : List Reading
   pub inARow : readings ≡ earlier ++ first ∷ second ∷ third ∷ later
-  pub odd : T (isOdd k first) × T (isOdd k second) × T (isOdd k third)
-  pub allValid : heardAll v (earlier ++ first ∷ second ∷ []) .channels ≡ All
+
+-- Somewhere three in a row have channel k as the odd one, while all channels are valid.
+pub record ThreeOdd (k : ℕ) (v : Voter) (readings : List Reading) : Type 0 where
+  pub channel : 1 ≤ k
+  pub three : ThreeOf readings
+  pub odd : T (isOdd k (three .first)) × T (isOdd k (three .second)) × T (isOdd k (three .third))
+  pub allValid : heardAll v (three .earlier ++ three .first ∷ three .second ∷ []) .channels ≡ All
+
+-- Somewhere, where two channels are valid, three in a row have them differ.
+pub record ThreeDiffer (v : Voter) (readings : List Reading) : Type 0 where
+  pub three : ThreeOf readings
+  pub twoValid : T (hasTwo (heardAll v (three .earlier)))
+  pub differing :
+      (let two = heardAll v (three .earlier) .channels in
+      T (differ two (three .first)) × T (differ two (three .second)) × T (differ two (three .third)))
 
 -- Odd channel and count as every vote keeps them: 0 to 3 and 0 to 2; with all channels valid there is an odd one exactly if the count is not
 -- 0; with one struck there is none; and with the sensor invalid both are 0.

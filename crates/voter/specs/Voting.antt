@@ -55,16 +55,16 @@ ofThree v one two three = byOdd v (oddOf one two three) (majorityOf one two thre
 -- ---- Two valid channels
 
 -- So many samples in a row, with this one, have had the two differ.
-abbrev pub apartInARow : Voter → ℕ
-apartInARow v = v .count + 1
+abbrev pub differInARow : Voter → ℕ
+differInARow v = v .count + 1
 
 -- If equal, that value, and the count is 0. If they differ the last value is kept, and at the third such sample in a row the sensor is
 -- invalid for ever, with the count at 0. There is no odd one of two.
 unfoldable pub ofTwo : Voter → Bool → Bool → Voter
 ofTwo v one two =
     cond (Bool·beq one two) (uncounted (v .channels) one)
-    (cond (leb third (apartInARow v)) (uncounted Nothing (v .held))
-    (sensor (v .channels) (v .held) 0 (apartInARow v)))
+    (cond (leb third (differInARow v)) (uncounted Nothing (v .held))
+    (sensor (v .channels) (v .held) 0 (differInARow v)))
 
 -- ---- A vote
 

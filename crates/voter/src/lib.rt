@@ -5,8 +5,8 @@ ghost use mathlib.Core.Path.{_≡_};
 ghost use Rattle.voter.specs.Voting.{uncounted, voted, freshWith, valueOf, isInvalid};
 
 mod items;
-mod three;
-mod two;
+mod of_three;
+mod of_two;
 
 // A sensor is so many items of an image (`itemsPerSensor` of specs/Items.antt).
 pub const ITEMS: usize = 2;
@@ -46,10 +46,10 @@ impl Voter {
     {
         let channels = self.channels;
         match channels {
-            Channels::All => three::vote(self, one, two, three),
-            Channels::Without1 => two::vote(self, two, three),
-            Channels::Without2 => two::vote(self, one, three),
-            Channels::Without3 => two::vote(self, one, two),
+            Channels::All => of_three::vote(self, one, two, three),
+            Channels::Without1 => of_two::vote(self, two, three),
+            Channels::Without2 => of_two::vote(self, one, three),
+            Channels::Without3 => of_two::vote(self, one, two),
             Channels::Nothing => self,
         }
     }

@@ -1,11 +1,11 @@
--- `voter::two::vote` meets its contract: by whether the two channels agree, and by the count. No count overflows: one more is added
+-- `voter::of_two::vote` meets its contract: by whether the two channels agree, and by the count. No count overflows: one more is added
 -- below the third.
 -- Assumes nothing.
 use borrow.Author.Needs.{needs}
 use Rattle.voter.specs.Voting.{ofTwo}
 use Rattle.voter.proofs.Counts.{before-the-third, at-the-third}
-use Rattle.voter.proofs.two.vote.Statement.{statement}
-use Rattle.voter.proofs.two.vote.Tie as tie
+use Rattle.voter.proofs.of_two.vote.Statement.{statement}
+use Rattle.voter.proofs.of_two.vote.Tie as tie
 
 uncounted-requires : tie.Need-uncounted-requires
 uncounted-requires c κs = search needs

@@ -1,11 +1,11 @@
--- `voter::three::by_odd` meets its contract: each return is a line of the rule. No count overflows: one more is added below the third.
+-- `voter::of_three::by_odd` meets its contract: each return is a line of the rule. No count overflows: one more is added below the third.
 -- Assumes nothing.
 use borrow.Author.Tests.{eq-eqb, ne-eqb}
 use Rattle.voter.specs.Voting.{byOdd}
 use Rattle.voter.proofs.Counts.{before-the-third, at-the-third}
 use borrow.Author.Needs.{needs}
-use Rattle.voter.proofs.three.by_odd.Statement.{statement}
-use Rattle.voter.proofs.three.by_odd.Tie as tie
+use Rattle.voter.proofs.of_three.by_odd.Statement.{statement}
+use Rattle.voter.proofs.of_three.by_odd.Tie as tie
 
 all-valid-requires : tie.Need-all-valid-requires
 all-valid-requires c κs = search needs

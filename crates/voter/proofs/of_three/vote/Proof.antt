@@ -1,9 +1,9 @@
--- `voter::three::vote` meets its contract: by the odd one and the majority.
+-- `voter::of_three::vote` meets its contract: by the odd one and the majority.
 -- Assumes nothing.
 use Rattle.voter.specs.Voting.{ofThree}
 use borrow.Author.Needs.{needs}
-use Rattle.voter.proofs.three.vote.Statement.{statement}
-use Rattle.voter.proofs.three.vote.Tie as tie
+use Rattle.voter.proofs.of_three.vote.Statement.{statement}
+use Rattle.voter.proofs.of_three.vote.Tie as tie
 
 odd-of-requires : tie.Need-odd-of-requires
 odd-of-requires c κs = search needs

@@ -1,8 +1,8 @@
--- `voter::three::odd_of` meets its contract: each return is a line of the rule, by the tests that led there.
+-- `voter::of_three::odd_of` meets its contract: each return is a line of the rule, by the tests that led there.
 -- Assumes nothing.
 use Rattle.voter.specs.Voting.{oddOf}
-use Rattle.voter.proofs.three.odd_of.Statement.{statement}
-use Rattle.voter.proofs.three.odd_of.Tie as tie
+use Rattle.voter.proofs.of_three.odd_of.Statement.{statement}
+use Rattle.voter.proofs.of_three.odd_of.Tie as tie
 
 returns : tie.Need-returns
 unfolding oddOf
