@@ -11,7 +11,7 @@ use crate::rules::Rules;
 pub type Stored = (&'static str, &'static str, Vec<u8>);
 
 /// Traces with their dump, and what that is for.
-pub const DUMPS_OF_TRACES: [(&str, &str); 32] = [
+pub const DUMPS_OF_TRACES: [(&str, &str); 34] = [
     ("session_s", "Session S: a 3 and a 4 add no time"),
     ("lesson", "a long lesson; the stamp goes round in it, time does not"),
     ("lamps_green_and_orange", "doors, then gears leave; orders, lamps and sensors change together"),
@@ -29,7 +29,12 @@ pub const DUMPS_OF_TRACES: [(&str, &str); 32] = [
     ("vote_struck_stays_three", "struck channels, then invalid sensors"),
     ("vote_bounces", "bounces that are forgiven: no wire tells"),
     ("channels_0", "channels that come and go"),
+    ("channels_agree", "the absorbers change together in row 1, and then no wire does"),
     ("lesson_brushed", "a lesson brushed all through: the dump of the clean one"),
+    (
+        "lesson_brushed_twice",
+        "two bounces in a row, another channel right behind them: the dump of the clean one",
+    ),
     ("lesson_clean", "the same lesson with no bounce: the same dump"),
     ("adversarial_0", "many wires change at once"),
     ("stall", "far stalls; an accepted row after many refused ones"),

@@ -10,7 +10,7 @@ use crate::rules::Rules;
 use crate::vectors::{handle_up, one, session_s, started, NEVER};
 
 /// Traces with their image; where it is marked, with the image in words too; and what that is for.
-pub const IMAGES_OF_TRACES: [(&str, bool, &str); 25] = [
+pub const IMAGES_OF_TRACES: [(&str, bool, &str); 26] = [
     ("session_s", true, "Session S: doors OPEN, gears EXTENDING with their order on; a 3 and a 4 in it"),
     ("lesson", true, "a long lesson; the stamp goes round in it; every age by itself"),
     ("edge_cause_1", true, "cause 1; doors OPENING and general_EV off"),
@@ -37,6 +37,11 @@ pub const IMAGES_OF_TRACES: [(&str, bool, &str); 25] = [
         "channels struck, none for a bounce; counts of 1 and 2 under way, which have no place",
     ),
     ("lesson_brushed", false, "a lesson brushed all through: the image of the clean one"),
+    (
+        "lesson_brushed_twice",
+        false,
+        "two bounces in a row, another channel right behind them: the image of the clean one",
+    ),
     ("lesson_clean", false, "the same lesson with no bounce: the same image"),
     ("image_ages", false, "general_EV's age is 59,999, the handle's was longer and stopped at 60,000"),
     ("image_torn", false, "the last row is torn, the one before it gets 4: the image of the row before"),

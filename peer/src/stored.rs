@@ -9,7 +9,7 @@ use crate::handover::{handover_bytes, shown_or_refused, Task};
 use crate::image_vectors::{images, onwards, own, IMAGES_OF_TRACES};
 use crate::rules::Rules;
 use crate::trace::replay_bytes;
-use crate::vectors::vectors;
+use crate::vectors::{brushed_twice, vectors};
 use crate::wall::csv;
 use std::collections::BTreeMap;
 use std::io::{self, ErrorKind::NotFound};
@@ -28,7 +28,7 @@ const GROUPS: [(&str, &str); 8] = [
 ];
 
 /// Every stored trace, and what its rows are for. One that is not the peer's own was given.
-const TRACES: [(&str, &str); 120] = [
+const TRACES: [(&str, &str); 122] = [
     ("adversarial_0", "sensors that say anything; given"),
     ("bad_bare_lf_long", "rows end in LF alone: the first line is too long; given"),
     ("bad_bare_lf_short", "a header that ends in LF alone, and no more; given"),
@@ -77,8 +77,15 @@ const TRACES: [(&str, &str); 120] = [
     ("bad_trailing_comma", "a comma at the end of a row; given"),
     ("bad_triple_digit", "a digit 2 in a triple"),
     ("bad_triple_extra", "a triple too many"),
-    ("channels_0", "bounces that are forgiven, and a channel that is struck; given"),
-    ("channels_1", "the same, and then the sensor is invalid; given"),
+    (
+        "channels_0",
+        "a bounce that is forgiven, and a channel that is struck; then cause 12, and splits that are forgiven; given",
+    ),
+    (
+        "channels_1",
+        "a channel is struck, splits of the two left are forgiven, then the sensor is invalid; given",
+    ),
+    ("channels_agree", "channels that agree in every row; the absorbers say ground from row 1 on; given"),
     ("edge_cause_1", "cause 1 at 7,000 ms, not at 6,999; then general_EV stops at 1,000"),
     ("edge_cause_10", "cause 10 at 10,000 ms, not at 9,999"),
     ("edge_cause_11_at_1000", "cause 11 at 1,000 ms, not at 999"),
@@ -125,6 +132,10 @@ const TRACES: [(&str, &str); 120] = [
     ("latching_move", "a move in the step in which red comes"),
     ("lesson", "a long lesson, the stamp goes round in it"),
     ("lesson_brushed", "a lesson in which channels bounce all through: the rows of the clean one; given"),
+    (
+        "lesson_brushed_twice",
+        "the same lesson with two bounces in a row, another channel right behind them: the rows of the clean one",
+    ),
     ("lesson_clean", "the same lesson with no bounce; given"),
     ("no_final_crlf", "the last row has no CRLF: it counts"),
     ("no_final_crlf_at_rest", "the same, and row 0 has an odd sample, which is not used; given"),
@@ -138,10 +149,18 @@ const TRACES: [(&str, &str); 120] = [
     ("stalls_use_up_labels", "refused rows have labels too; given"),
     ("stamp_highest", "the stamp 2^32 - 1: good form, 4; given"),
     ("stamp_round", "the stamp goes round in the first accepted row"),
-    ("vote_bounces", "bounces that are forgiven: one, two, and two with something between; no red"),
+    (
+        "vote_bounces",
+        "bounces that are forgiven: one, two, and two with something between; then channel 1 of six sensors is struck, \
+         so channel 3 was not; no red",
+    ),
     ("vote_each_channel", "a channel of each number bounces: forgiven; then one of the handle is struck"),
     ("vote_each_channel_three", "a channel of each number is struck; then a sensor is invalid"),
-    ("vote_handle", "a channel of the handle bounces: forgiven; then it is odd where the others turn the handle, and comes back"),
+    (
+        "vote_handle",
+        "a channel of the handle bounces: forgiven; then the others turn the handle and turn it back, and it is odd \
+         between; then all turn it",
+    ),
     (
         "vote_handle_three",
         "a channel of the handle struck, the handle turned by the two left; then they differ: invalid",
@@ -199,6 +218,12 @@ impl Store {
     }
 }
 
+/// A trace that was given.
+fn given(cases: &Path, name: &str) -> io::Result<Vec<u8>> {
+    let path = cases.join(format!("data/traces/{name}.in"));
+    std::fs::read(&path).map_err(|e| io::Error::new(e.kind(), format!("{}: {e}", path.display())))
+}
+
 /// All that is to be stored; `cases` is the folder that has the given traces.
 pub fn wanted(cases: &Path) -> io::Result<Files> {
     let rules = Rules::default();
@@ -206,11 +231,10 @@ pub fn wanted(cases: &Path) -> io::Result<Files> {
     let mut made: BTreeMap<String, Vec<u8>> = vectors().into_iter().collect();
     let mut traces = BTreeMap::new();
     for (name, why) in TRACES {
-        let path = cases.join(format!("data/traces/{name}.in"));
         let text = match made.remove(name).or_else(|| own(name)) {
             Some(text) => text,
-            None => std::fs::read(&path)
-                .map_err(|e| io::Error::new(e.kind(), format!("{}: {e}", path.display())))?,
+            None if name == "lesson_brushed_twice" => brushed_twice(&given(cases, "lesson_clean")?),
+            None => given(cases, name)?,
         };
         store.given("traces", name, "in", text.clone());
         store.case("rows", "traces", name, why, replay_bytes(&rules, &text).0);

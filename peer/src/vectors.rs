@@ -4,7 +4,7 @@
 use crate::gen::{cut, field, lesson, same, trace, Script, Tape, Travel};
 use crate::rig::*;
 use crate::rules::Rules;
-use crate::trace::HEADER;
+use crate::trace::{row, Row, HEADER};
 
 pub(crate) const NEVER: u64 = u64::MAX;
 pub(crate) const AT_REST: u32 = HANDLE | GEAR_EXTENDED | DOOR_CLOSED;
@@ -142,6 +142,28 @@ fn told(beat: &str, sensors: &[(u32, &str)]) -> Tape {
         assert_eq!(tape.after(elapsed, sample(row)), code);
     }
     tape
+}
+
+/// Which channel of a sensor says otherwise, over and over: none three times in a row, but each twice with another right
+/// behind it, and twice with agreement and the same again.
+const TWICE: &[u8] = b"1122.33.3311.22.2233.11.";
+
+/// A lesson that is brushed behind row 0, each sensor by `TWICE` from a place of its own. In the last row all channels
+/// agree, so that no count is under way. No row of the lesson may be refused.
+pub(crate) fn brushed_twice(clean: &[u8]) -> Vec<u8> {
+    let rules = Rules::default();
+    let rows: Vec<Row> = cut(clean)[1..].iter().map(|text| row(&rules, text).unwrap()).collect();
+    let mut tape = Tape::new(rows[0].stamp, rows[0].sample);
+    for (n, row) in rows.iter().enumerate().skip(1) {
+        let says = |channel: u8| {
+            let sensors = (0..18).filter(|sensor| TWICE[(n + sensor) % TWICE.len()] == channel);
+            sensors.fold(0, |all, sensor| all | 1 << sensor)
+        };
+        let odd = if n + 1 < rows.len() { [b'1', b'2', b'3'].map(says) } else { [0; 3] };
+        let sample = std::array::from_fn(|channel| row.sample[channel] ^ odd[channel]);
+        assert_eq!(tape.at(row.stamp, sample), 0);
+    }
+    tape.text
 }
 
 /// From a fresh start, samples on which the channels agree. No order is ever on with the handle

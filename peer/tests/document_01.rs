@@ -1,6 +1,5 @@
 //! Document 01 with change requests K1 and K5, told by examples.
 use peer::gen::{same, trace, Script, Tape, KINDS};
-use peer::image::Image;
 use peer::rig::*;
 use peer::rules::{faults, unseen, Rules};
 use peer::trace::{replay, replay_bytes, HEADER, OUT_HEADER};
@@ -46,31 +45,6 @@ fn session_s_with_the_lamps_of_k1() {
 fn what_is_stored_is_the_peers() {
     let cases = Path::new("../crates/cases");
     assert_eq!(peer::stored::check(cases).unwrap(), Vec::<String>::new());
-}
-
-/// By the text of K5: at the third sample in a row.
-#[test]
-fn votes_p1_p2_p3() {
-    let rules = Rules::default();
-    let ground = AT_REST | ON_GROUND;
-    let mut rig = Rig::fresh(&rules, 0);
-    for (stamp, third) in [(10, false), (20, false), (30, true)] {
-        rig.step(&rules, stamp, [ground, ground, AT_REST]); // P1
-        assert_eq!((rig.held & ON_GROUND, rig.cause), (ON_GROUND, 0));
-        let voters = Image::of(&rules, &rig).voter;
-        assert_eq!(voters[8..11], [if third { 3 } else { 0 }; 3]);
-    }
-    rig.step(&rules, 40, same(ground)); // P3: channel 3 agrees and stays struck
-    assert_eq!(Image::of(&rules, &rig).voter[8..11], [3; 3]);
-    for (stamp, cause) in [(50, 0), (60, 0), (70, 13)] {
-        rig.step(&rules, stamp, [ground, AT_REST, AT_REST]); // P2
-        assert_eq!((rig.held & ON_GROUND, rig.cause), (ON_GROUND, cause));
-    }
-    assert_eq!(Image::of(&rules, &rig).voter[8..11], [4; 3]);
-    // The votes of an odd channel's first sample count for the monitors.
-    let mut rig = Rig::fresh(&rules, 0);
-    rig.step(&rules, 10, [AT_REST | SWITCH, AT_REST | SWITCH, AT_REST]);
-    assert_eq!((rig.held & SWITCH, rig.cause), (SWITCH, 12));
 }
 
 #[test]

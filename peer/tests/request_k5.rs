@@ -5,8 +5,8 @@ use peer::gen::{cut, same, trace, Tape};
 use peer::handover::{handover_bytes, Task};
 use peer::image::{Image, BYTES};
 use peer::rig::*;
-use peer::rules::Rules;
-use peer::stored::read;
+use peer::rules::{by_name, Rules};
+use peer::stored::{read, Vector};
 use peer::trace::replay_bytes;
 use peer::vectors::vectors;
 use std::path::Path;
@@ -67,6 +67,15 @@ fn p1_p2_p3() {
     let mut told = after_p1();
     assert_eq!(told.says(1, 1, 1), (1, 3, false)); // P3
     assert_eq!(told.says(0, 0, 1), (0, 3, false));
+}
+
+/// The votes of an odd channel's first sample count for the monitors.
+#[test]
+fn monitors_go_by_the_majority_at_once() {
+    let rules = Rules::default();
+    let mut rig = Rig::fresh(&rules, 0);
+    rig.step(&rules, 10, [AT_REST | SWITCH, AT_REST | SWITCH, AT_REST]);
+    assert_eq!((rig.held & SWITCH, rig.cause), (SWITCH, 12));
 }
 
 #[test]
@@ -210,6 +219,8 @@ struct Counted {
     invalid: usize,
     /// Counts that went back to 0, or began again with another channel.
     forgiven: [usize; 2],
+    /// The sensors that came to a count of 2, and those where another odd channel came right behind it.
+    twice: [u32; 2],
     /// Refused rows at which a sensor's count stood, and went on with the next accepted row.
     over_refused: usize,
     /// Sensors with a count at the last row.
@@ -237,6 +248,8 @@ fn counted(text: &[u8]) -> Counted {
                 let was_counting = before.count > 0 && !struck && !lost;
                 all.forgiven[0] += usize::from(was_counting && voter.count == 0);
                 all.forgiven[1] += usize::from(was_counting && voter.count == 1);
+                all.twice[0] |= u32::from(voter.count == 2) << n;
+                all.twice[1] |= u32::from(before.count == 2 && voter.count == 1) << n;
                 all.over_refused +=
                     usize::from(refused && before.count > 0 && (voter.count == 2 || struck || lost));
             }
@@ -292,19 +305,44 @@ fn any_samples_by_the_text() {
     }
 }
 
-fn given(name: &str) -> (Vec<u8>, Vec<u8>) {
+/// A stored trace and its rows.
+fn trace_and_rows(name: &str) -> (Vec<u8>, Vec<u8>) {
     let file = |ending: &str| std::fs::read(format!("../crates/cases/data/traces/{name}.{ending}")).unwrap();
     (file("in"), file("out"))
 }
 
-/// What was given: the traces reach what they are stored for.
+fn saved(rules: &Rules, text: &[u8]) -> Vec<u8> {
+    handover_bytes(rules, Task::Save, text).0
+}
+
+/// FNV-1a, 64 bits.
+fn digest<'a>(bytes: impl IntoIterator<Item = &'a u8>) -> u64 {
+    let next = |all: u64, b: &u8| (all ^ u64::from(*b)).wrapping_mul(0x100_0000_01b3);
+    bytes.into_iter().fold(0xcbf2_9ce4_8422_2325, next)
+}
+
+/// What was given, held by digests of traces and rows. The rows that are stored are written by the peer, so that a wrong
+/// peer would agree with those.
+#[test]
+fn given_traces_are_as_given() {
+    for (name, trace, rows) in [
+        ("channels_0", 0x99e4_60e1_b86f_ed34, 0xb3fc_390e_6f13_7613),
+        ("channels_1", 0xf2a8_cc67_f4a4_0faa, 0x6ec4_07a4_60b4_2a50),
+        ("channels_agree", 0x45ca_9a40_fdc8_6d69, 0x27bb_f10a_8c1a_8b91),
+        ("lesson_brushed", 0xfff5_e9f4_17a5_3d96, 0xfa74_f9fe_5a32_ed8b),
+        ("lesson_clean", 0xbc13_a156_7717_8b8e, 0xfa74_f9fe_5a32_ed8b),
+    ] {
+        let (text, stored) = trace_and_rows(name);
+        assert_eq!((digest(&text), digest(&stored)), (trace, rows), "{name}");
+        assert_eq!(replay_bytes(&Rules::default(), &text).0, stored, "{name}");
+    }
+}
+
+/// They reach what they are stored for.
 #[test]
 fn given_traces_by_the_text() {
-    let all = ["channels_0", "channels_1", "lesson_brushed", "lesson_clean"].map(|name| {
-        let (text, rows) = given(name);
-        assert_eq!(replay_bytes(&Rules::default(), &text).0, rows, "{name}");
-        counted(&text)
-    });
+    let all = ["channels_0", "channels_1", "lesson_brushed", "lesson_clean"]
+        .map(|name| counted(&trace_and_rows(name).0));
     println!("{all:?}");
     let [zero, one, brushed, clean] = &all;
     assert!(zero.strikes > 0 && zero.forgiven[0] > 0);
@@ -317,38 +355,53 @@ fn given_traces_by_the_text() {
 #[test]
 fn a_brushed_lesson_is_the_clean_one() {
     let rules = Rules::default();
-    let [(brushed, rows), (clean, clean_rows)] = ["lesson_brushed", "lesson_clean"].map(given);
-    assert_ne!(brushed, clean);
-    assert_eq!(rows, clean_rows);
+    let (clean, rows) = trace_and_rows("lesson_clean");
     assert_eq!(rows, replay_bytes(&rules, &clean).0);
     let all = read(Path::new("../crates/cases/data")).unwrap();
-    let stored = |list: &[(String, Vec<u8>, Vec<u8>)]| {
-        list.iter().find(|v| v.0 == "lesson_brushed").map(|v| v.2.clone()).unwrap()
-    };
-    assert_eq!(stored(&all.dumps), waves_bytes(&rules, &clean).0);
-    assert_eq!(stored(&all.images), handover_bytes(&rules, Task::Save, &clean).0);
-    assert_eq!(stored(&all.images).len(), BYTES);
+    for name in ["lesson_brushed", "lesson_brushed_twice"] {
+        let (brushed, brushed_rows) = trace_and_rows(name);
+        assert_ne!(brushed, clean);
+        assert_eq!(brushed_rows, rows, "{name}");
+        let stored = |list: &[Vector]| list.iter().find(|v| v.0 == name).map(|v| v.2.clone()).unwrap();
+        assert_eq!(stored(&all.dumps), waves_bytes(&rules, &clean).0, "{name}");
+        assert_eq!(stored(&all.images), saved(&rules, &clean), "{name}");
+        assert_eq!(stored(&all.images).len(), BYTES);
+    }
 }
 
-/// Where all channels agree K5 changes nothing: the rows are those of a voter that strikes at once.
+/// In the one that was given every bounce is a single one. In the other each sensor comes to a count of 2, and from
+/// there to another odd channel: a voter that strikes at the second sample gives other rows and another image.
 #[test]
-fn agreeing_channels_are_as_before() {
-    let before = Rules { strike_at: 1, invalid_at: 1, ..Rules::default() };
-    let all = read(Path::new("../crates/cases/data")).unwrap();
-    let agree = |text: &[u8]| {
-        let mut fields = cut(text)
-            .into_iter()
-            .skip(2)
-            .flat_map(|row| row.split(|&b| b == b',').skip(2).map(<[u8]>::to_vec).collect::<Vec<_>>());
-        fields.all(|says| [&b"000"[..], b"111"].contains(&&says[..]))
-    };
-    let mut count = 0;
-    for (name, text, rows) in all.rows.iter().filter(|v| agree(&v.1)) {
-        assert!(replay_bytes(&before, text).0 == *rows, "{name}");
-        count += 1;
+fn a_lesson_brushed_twice_in_a_row() {
+    let [once, twice, clean] =
+        ["lesson_brushed", "lesson_brushed_twice", "lesson_clean"].map(|name| trace_and_rows(name).0);
+    assert_eq!(counted(&once).twice, [0, 0]);
+    let found = counted(&twice);
+    println!("{found:?}");
+    assert_eq!((found.strikes, found.invalid, found.at_the_end, found.twice), (0, 0, 0, [SENSORS; 2]));
+    for name in ["struck_at_sample_2", "count_kept_over_agreement", "count_kept_over_other_odd_channel"] {
+        let fault = by_name(name).unwrap();
+        assert_ne!(replay_bytes(&fault, &twice).0, replay_bytes(&fault, &clean).0, "{name}");
+        assert_ne!(saved(&fault, &twice), saved(&fault, &clean), "{name}");
     }
-    println!("{count} stored traces agree");
-    assert!(count >= 60, "{count}");
+    let at_second = by_name("struck_at_sample_2").unwrap();
+    assert_eq!(saved(&at_second, &once), saved(&at_second, &clean));
+}
+
+/// Where all channels agree K5 changes nothing: such traces and their rows are those that were stored before it, in
+/// commit 9ffccf9, by a digest of names, traces and rows; but for those stored since.
+#[test]
+fn agreeing_traces_are_those_of_before() {
+    let since = ["channels_agree", "lesson_clean"];
+    let agree = |text: &[u8]| {
+        let rows = cut(text);
+        let mut fields = rows.iter().skip(2).flat_map(|row| row.split(|&b| b == b',').skip(2));
+        rows.len() > 2 && fields.all(|says| says == b"000" || says == b"111")
+    };
+    let all = read(Path::new("../crates/cases/data")).unwrap().rows;
+    let before: Vec<_> = all.iter().filter(|v| agree(&v.1) && !since.contains(&&v.0[..])).collect();
+    let bytes = before.iter().flat_map(|(name, text, rows)| name.as_bytes().iter().chain(text).chain(rows));
+    assert_eq!((before.len(), digest(bytes)), (79, 0x794f_b802_8003_2491));
 }
 
 /// Traces of before K5 that bounce: nothing is invalid in them. What they were for is reached by others.
