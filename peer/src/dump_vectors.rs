@@ -28,7 +28,7 @@ pub const DUMPS_OF_TRACES: [(&str, &str); 34] = [
     ("vote_row_0", "row 0 is not used: the first values are those of a fresh start"),
     ("vote_struck_stays_three", "struck channels, then invalid sensors"),
     ("vote_bounces", "bounces that are forgiven: no wire tells"),
-    ("channels_0", "channels that come and go"),
+    ("channels_0", "the voted switch goes on, with red, and off; a strike and splits show on no wire"),
     ("channels_agree", "the absorbers change together in row 1, and then no wire does"),
     ("lesson_brushed", "a lesson brushed all through: the dump of the clean one"),
     (

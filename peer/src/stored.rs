@@ -219,7 +219,7 @@ impl Store {
 }
 
 /// A trace that was given.
-fn given(cases: &Path, name: &str) -> io::Result<Vec<u8>> {
+fn read_given(cases: &Path, name: &str) -> io::Result<Vec<u8>> {
     let path = cases.join(format!("data/traces/{name}.in"));
     std::fs::read(&path).map_err(|e| io::Error::new(e.kind(), format!("{}: {e}", path.display())))
 }
@@ -233,8 +233,8 @@ pub fn wanted(cases: &Path) -> io::Result<Files> {
     for (name, why) in TRACES {
         let text = match made.remove(name).or_else(|| own(name)) {
             Some(text) => text,
-            None if name == "lesson_brushed_twice" => brushed_twice(&given(cases, "lesson_clean")?),
-            None => given(cases, name)?,
+            None if name == "lesson_brushed_twice" => brushed_twice(&read_given(cases, "lesson_clean")?),
+            None => read_given(cases, name)?,
         };
         store.given("traces", name, "in", text.clone());
         store.case("rows", "traces", name, why, replay_bytes(&rules, &text).0);

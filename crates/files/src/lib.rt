@@ -7,4 +7,4 @@
 // HandedOver: what is saved of a trace is the image of its last state, it is taken, and the lesson goes on from it where no count of request K5
 // runs. Left: the line that is named with it is that of the last row that was answered. Cut: where no count runs at the cut, the rows of a
 // lesson that was handed over are those of the lesson that was not. Brushed, BrushedDumps: a lesson that is brushed, every bounce forgiven,
-// gives the rows, the image and the dump of the clean one; BrushedWorked has two such lessons.
+// gives the rows, the image and the dump of the clean one; BrushedWorked has such a pair.

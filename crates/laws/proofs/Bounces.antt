@@ -12,10 +12,9 @@ use lib.Dec.{T, eqb}
 use lib.ListN.{length, getD}
 use Rattle.common.specs.Lists.{eachFrom}
 use Rattle.voter.specs.declared.Voter.{Voter}
-use Rattle.voter.specs.declared.Channels.the-variants.{All}
 use Rattle.voter.specs.Voting.{freshWith, isInvalid}
 use Rattle.voter.specs.Runs.{Reading, heard, heardAll, Quiet, isStruck, ThreeOdd, ThreeDiffer}
-use Rattle.voter.proofs.Laws.{fresh-sensor-is-quiet}
+use Rattle.voter.proofs.Laws.{all-is-valid, fresh-sensor-is-quiet}
 use Rattle.voter.proofs.InARow.{struck-exactly}
 use Rattle.voter.proofs.Splits.{invalid-exactly}
 use Rattle.controller.specs.declared.State.{State}
@@ -103,12 +102,14 @@ struck-exactly-over-a-run i s within quiet k channel rows valid =
     subst⁻¹ (λ (v : Voter). T (isStruck k v) ↔ ThreeOdd k (sensorAt i s) (readingsAt i s rows)) is
     (struck-exactly (sensorAt i s) (quiet .0) (quiet .1) k channel (readingsAt i s rows) (ap isInvalid (sym is) ∙ valid))
 
--- .. and it is invalid exactly by three in a row in which the two that are left differ.
-pub invalid-exactly-over-a-run : (i : ℕ) (s : State) → i < length (s .voters) → sensorAt i s .channels ≡ All → (rows : List Row)
+-- .. and it is invalid exactly by three in a row in which the two that are left differ, from any state in which it is not and its count is 0,
+-- a channel struck or not.
+pub invalid-exactly-over-a-run : (i : ℕ) (s : State) → i < length (s .voters)
+    → isInvalid (sensorAt i s) ≡ false → sensorAt i s .count ≡ 0 → (rows : List Row)
     → T (isInvalid (sensorAt i (after s rows))) ↔ ThreeDiffer (sensorAt i s) (readingsAt i s rows)
-invalid-exactly-over-a-run i s within all rows =
+invalid-exactly-over-a-run i s within valid none rows =
     subst⁻¹ (λ (v : Voter). T (isInvalid v) ↔ ThreeDiffer (sensorAt i s) (readingsAt i s rows)) (hears-the-accepted i s within rows)
-    (invalid-exactly (sensorAt i s) all (readingsAt i s rows))
+    (invalid-exactly (sensorAt i s) valid none (readingsAt i s rows))
 
 -- ---- A fresh start is such a state, for each of the eighteen sensors.
 
@@ -136,4 +137,6 @@ module _ (stamp i : ℕ) (within : i < sensorCount) where
       → T (isInvalid (sensorAt i (after (freshOf stamp) rows)))
       ↔ ThreeDiffer (sensorAt i (freshOf stamp)) (readingsAt i (freshOf stamp) rows)
   unfolding freshOf freshVoters
-  invalid-exactly-from-a-fresh-start = invalid-exactly-over-a-run i (freshOf stamp) within (fresh-is-quiet stamp i within .0)
+  invalid-exactly-from-a-fresh-start =
+      let quiet = fresh-is-quiet stamp i within in
+      invalid-exactly-over-a-run i (freshOf stamp) within (all-is-valid (sensorAt i (freshOf stamp)) (quiet .0)) (quiet .1)

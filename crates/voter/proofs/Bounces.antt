@@ -13,7 +13,8 @@ use Rattle.voter.specs.declared.Channels.the-variants.{All}
 use Rattle.voter.specs.declared.Voter.{Voter}
 use Rattle.voter.proofs.Runs.{at-the-end, too-few, just-these, struck-stays}
 use Rattle.voter.proofs.InARow.{struck-exactly, all-valid-exactly}
-use Rattle.voter.proofs.Splits.{invalid-exactly, invalid-exactly-of-two}
+use Rattle.voter.proofs.Laws.{all-is-valid}
+use Rattle.voter.proofs.Splits.{two-are-valid, invalid-exactly}
 
 -- ---- From all valid and count 0
 
@@ -32,7 +33,7 @@ module _ (v : Voter) (all : v .channels ≡ All) (none : v .count ≡ 0) (a b : 
       where
         by : (is : Bool) → isInvalid (heardAll v (a ∷ b ∷ c ∷ [])) ≡ is → is ≡ false
         by true e =
-            let row = invalid-exactly v all (a ∷ b ∷ c ∷ []) .0 (subst⁻¹ T e tt) in
+            let row = invalid-exactly v (all-is-valid v all) none (a ∷ b ∷ c ∷ []) .0 (subst⁻¹ T e tt) in
             let start = just-these a b c (row .three) .0 in
             let two : T (hasTwo v) = subst (λ (rs : List Reading). T (hasTwo (heardAll v rs))) start (row .twoValid) in
             absurd (subst (λ (ch : Channels). T (eqb (validChannels ch) 2)) all two)
@@ -71,7 +72,7 @@ module _ (v : Voter) (left : T (hasTwo v)) (none : v .count ≡ 0) (a b : Readin
     where
       by : (is : Bool) → isInvalid (heardAll v (a ∷ b ∷ [])) ≡ is → is ≡ false
       by true e =
-          let row = invalid-exactly-of-two v left none (a ∷ b ∷ []) .0 (subst⁻¹ T e tt) in
+          let row = invalid-exactly v (two-are-valid v left) none (a ∷ b ∷ []) .0 (subst⁻¹ T e tt) in
           absurd (too-few a b (row .three))
       by false e = refl
 
@@ -84,7 +85,7 @@ module _ (v : Voter) (left : T (hasTwo v)) (none : v .count ≡ 0) (a b : Readin
   invalid-after-three-exactly c = (λ invalid. differing (exactly .0 invalid), λ differ. exactly .1 (row differ))
     where
       exactly : T (isInvalid (heardAll v (a ∷ b ∷ c ∷ []))) ↔ ThreeDiffer v (a ∷ b ∷ c ∷ [])
-      exactly = invalid-exactly-of-two v left none (a ∷ b ∷ c ∷ [])
+      exactly = invalid-exactly v (two-are-valid v left) none (a ∷ b ∷ c ∷ [])
 
       differing : ThreeDiffer v (a ∷ b ∷ c ∷ []) → T (differ (v .channels) a) × T (differ (v .channels) b) × T (differ (v .channels) c)
       differing row =

@@ -158,7 +158,7 @@ value-is-of-the-majority v e one two three =
     subst⁻¹ (λ (ch : Channels). votedBy ch v one two three .held ≡ majorityOf one two three) e
     (by-odd-value v (oddOf one two three) (majorityOf one two three))
 
-majority-told : (truth other : Bool) → (majorityOf truth truth other ≡ truth) × (majorityOf truth other truth ≡ truth) × (majorityOf other truth truth ≡ truth)
+pub majority-told : (truth other : Bool) → (majorityOf truth truth other ≡ truth) × (majorityOf truth other truth ≡ truth) × (majorityOf other truth truth ≡ truth)
 unfolding majorityOf
 majority-told true true = (refl, refl, refl)
 majority-told true false = (refl, refl, refl)

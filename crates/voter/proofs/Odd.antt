@@ -1,12 +1,12 @@
--- A vote with all channels valid (request K5), by what it comes to; and the same channel in three of them.
+-- Who is odd of three (request K5); a vote with all channels valid, by what it comes to; and the same channel in three of them.
 -- Assumes nothing.
 use Prim.Native.Nat.{ℕ, _+_, _≤_}
 use native.Mathlib.Omega.{arith}
-use mathlib.Core.Bool.{Bool, true, false, cond}
+use mathlib.Core.Bool.{Bool, true, false, cond, not, Bool·beq}
 use mathlib.Core.Path.{_≡_, _∙_, refl, sym, ap, subst, subst⁻¹}
 use lib.Dec.{T, eqb, eqb-refl, lit≤}
 use borrow.Author.Tests.{eq-eqb, ne-eqb}
-use Rattle.voter.specs.Voting.{third, oddOf, oddInARow, byOdd, ofThree, votedBy, voted}
+use Rattle.voter.specs.Voting.{third, oddOf, majorityOf, oddInARow, byOdd, ofThree, votedBy, voted}
 use Rattle.voter.specs.Numbers.{channelsNumber, channelsAt}
 use Rattle.voter.specs.Runs.{Reading, oddIn, isOdd, majority, heard}
 use Rattle.voter.specs.declared.Channels.{Channels}
@@ -17,18 +17,29 @@ use Rattle.voter.proofs.Outcomes.{OfThree, of-three}
 use Rattle.voter.proofs.Outcomes.OfThree.{agreed, suspected, struck}
 use Rattle.voter.proofs.Laws.{all-were-valid}
 
--- ---- A vote with all channels valid
+-- ---- Who is odd
+
+-- One of 1 to 3, or 0: the one that says otherwise than the majority.
+pub who-is-odd :
+    (r : Reading) →
+    (oddIn r ≤ 3) ×
+    (isOdd 1 r ≡ not (Bool·beq (r .0) (majority r))) ×
+    (isOdd 2 r ≡ not (Bool·beq (r .1) (majority r))) ×
+    (isOdd 3 r ≡ not (Bool·beq (r .2) (majority r)))
+unfolding oddOf majorityOf
+who-is-odd (true, true, true) = (lit≤ tt, refl, refl, refl)
+who-is-odd (true, true, false) = (lit≤ tt, refl, refl, refl)
+who-is-odd (true, false, true) = (lit≤ tt, refl, refl, refl)
+who-is-odd (true, false, false) = (lit≤ tt, refl, refl, refl)
+who-is-odd (false, true, true) = (lit≤ tt, refl, refl, refl)
+who-is-odd (false, true, false) = (lit≤ tt, refl, refl, refl)
+who-is-odd (false, false, true) = (lit≤ tt, refl, refl, refl)
+who-is-odd (false, false, false) = (lit≤ tt, refl, refl, refl)
 
 pub odd-to-3 : (r : Reading) → oddIn r ≤ 3
-unfolding oddOf
-odd-to-3 (true, true, true) = lit≤ tt
-odd-to-3 (true, true, false) = lit≤ tt
-odd-to-3 (true, false, true) = lit≤ tt
-odd-to-3 (true, false, false) = lit≤ tt
-odd-to-3 (false, true, true) = lit≤ tt
-odd-to-3 (false, true, false) = lit≤ tt
-odd-to-3 (false, false, true) = lit≤ tt
-odd-to-3 (false, false, false) = lit≤ tt
+odd-to-3 r = who-is-odd r .0
+
+-- ---- A vote with all channels valid
 
 by-odd : (v : Voter) → v .channels ≡ All → (r : Reading) → heard v r ≡ byOdd v (oddIn r) (majority r)
 unfolding voted votedBy ofThree

@@ -3,18 +3,18 @@
 -- Assumes nothing.
 use Prim.Native.Nat.{ℕ, zero, suc, _+_, _≤_}
 use native.Mathlib.Omega.{arith}
-use mathlib.Core.Bool.{Bool, false}
+use mathlib.Core.Bool.{Bool, true, false, Bool·beq}
 use mathlib.Core.List.{List, [], _∷_, _++_, append-assoc}
 use mathlib.Core.Logic.{_↔_, _⊎_, inl, inr}
 use mathlib.Core.Path.{_≡_, _∙_, refl, sym, ap, subst, subst⁻¹}
 use lib.Dec.{T, eqb}
-use Rattle.voter.specs.Voting.{differInARow, freshWith, votedBy, voted, valueOf, noneLeft, isInvalid, validChannels}
+use Rattle.voter.specs.Voting.{differInARow, ofTwo, freshWith, votedBy, voted, valueOf, noneLeft, isInvalid, validChannels}
 use Rattle.voter.specs.Numbers.{channelsAt}
-use Rattle.voter.specs.Runs.{Reading, oddIn, differ, heard, heardAll, hasTwo, ThreeDiffer}
+use Rattle.voter.specs.Runs.{Reading, oddIn, majority, agree, differ, heard, heardAll, hasTwo, ThreeDiffer}
 use Rattle.voter.specs.declared.Channels.{Channels}
 use Rattle.voter.specs.declared.Channels.the-variants.{All, Without1, Without2, Without3, Nothing}
 use Rattle.voter.specs.declared.Voter.{Voter}
-use Rattle.voter.proofs.Laws.{all-is-valid}
+use Rattle.voter.proofs.Laws.{all-is-valid, majority-told, fresh-is-valid}
 use Rattle.voter.proofs.Odd.{odd-to-3, comes, Comes}
 use Rattle.voter.proofs.Outcomes.{OfTwo, of-two}
 use Rattle.voter.proofs.Outcomes.OfThree.{agreed, suspected, struck}
@@ -52,6 +52,33 @@ pub split-keeps-the-value :
     T (differ (before .channels) r) →
     valueOf (heardAll v (rs ++ r ∷ [])) ≡ valueOf before)
 split-keeps-the-value v rs r left apart = ap valueOf (heard-last v rs r) ∙ kept-by-a-split (heardAll v rs) left r apart
+
+-- Where they agree the value is theirs, which is that of the majority, whatever the struck one says.
+two-agree : (v : Voter) (a b : Bool) → T (Bool·beq a b) → (ofTwo v a b .held ≡ a) × (a ≡ b)
+unfolding ofTwo
+two-agree v true true same = (refl, refl)
+two-agree v true false same = absurd same
+two-agree v false true same = absurd same
+two-agree v false false same = (refl, refl)
+
+told-by-two : (v : Voter) → T (hasTwo v) → (r : Reading) → T (agree (v .channels) r) → valueOf (heard v r) ≡ majority r
+unfolding voted votedBy validChannels valueOf
+told-by-two v left r same = by (v .channels) left same
+  where
+    by : (ch : Channels) → T (eqb (validChannels ch) 2) → T (agree ch r) → votedBy ch v (r .0) (r .1) (r .2) .held ≡ majority r
+    by All left same = absurd left
+    by Without1 left same = let both = two-agree v (r .1) (r .2) same in both .0 ∙ sym (rw (← both .1) (majority-told (r .1) (r .0) .2))
+    by Without2 left same = let both = two-agree v (r .0) (r .2) same in both .0 ∙ sym (rw (← both .1) (majority-told (r .0) (r .1) .1))
+    by Without3 left same = let both = two-agree v (r .0) (r .1) same in both .0 ∙ sym (rw (← both .1) (majority-told (r .0) (r .2) .0))
+    by Nothing left same = absurd left
+
+pub agreement-is-heard :
+    (v : Voter) (rs : List Reading) (r : Reading) →
+    (let before = heardAll v rs in
+    T (hasTwo before) →
+    T (agree (before .channels) r) →
+    valueOf (heardAll v (rs ++ r ∷ [])) ≡ majority r)
+agreement-is-heard v rs r left same = ap valueOf (heard-last v rs r) ∙ told-by-two (heardAll v rs) left r same
 
 -- With two valid channels a sensor is not invalid.
 pub two-are-valid : (v : Voter) → T (hasTwo v) → isInvalid v ≡ false
@@ -111,7 +138,7 @@ module _ (v : Voter) (r : Reading) where
       (rs : List Reading) (a : Reading) (w : Voter) →
       T (hasTwo w) → heardAll v rs .channels ≡ w .channels → w .count ≡ 1 → T (differ (w .channels) a) →
       (u : Voter) → OfTwo w (differ (w .channels) r) u → Behind v ((rs ++ a ∷ []) ++ r ∷ []) u
-  from-one rs a w left same counted first u (together value agree) = nothing left refl
+  from-one rs a w left same counted first u (together value again) = nothing left refl
   from-one rs a w left same once first u (doubted differs few) =
       let twice : differInARow w ≡ 2 = omega arith in
       subst⁻¹ (λ (l : List Reading). Behind v l u) (append-assoc rs (a ∷ []) (r ∷ []))
@@ -122,7 +149,7 @@ module _ (v : Voter) (r : Reading) where
       (rs : List Reading) (a b : Reading) (w : Voter) →
       T (hasTwo w) → heardAll v rs .channels ≡ w .channels → w .count ≡ 2 → T (differ (w .channels) a) → T (differ (w .channels) b) →
       (u : Voter) → OfTwo w (differ (w .channels) r) u → Behind v ((rs ++ a ∷ b ∷ []) ++ r ∷ []) u
-  from-two rs a b w left same counted first second u (together value agree) = nothing left refl
+  from-two rs a b w left same counted first second u (together value again) = nothing left refl
   from-two rs a b w left same counted first second u (doubted differs few) = absurd (omega arith)
   from-two rs a b w left same counted first second u (lost differs many) =
       end refl
@@ -221,16 +248,23 @@ three-is-invalid v rs row =
     in
     subst⁻¹ (λ (u : Voter). T (noneLeft (u .channels))) now (subst⁻¹ (λ (ch : Channels). T (noneLeft ch)) (stays-gone _ gone (at .later)) tt)
 
--- From a sensor with all channels valid, ..
-pub invalid-exactly : (v : Voter) → v .channels ≡ All → (rs : List Reading) → T (isInvalid (heardAll v rs)) ↔ ThreeDiffer v rs
-invalid-exactly v valid rs = (invalid-had-three v (all valid) rs, three-is-invalid v rs)
+-- From any sensor that is not invalid and has its count at 0, ..
+pub invalid-exactly :
+    (v : Voter) → isInvalid v ≡ false → v .count ≡ 0 → (rs : List Reading) → T (isInvalid (heardAll v rs)) ↔ ThreeDiffer v rs
+unfolding isInvalid validChannels
+invalid-exactly v valid none rs = (invalid-had-three v (start (v .channels) refl) rs, three-is-invalid v rs)
+  where
+    left : (ch : Channels) → v .channels ≡ ch → T (eqb (validChannels ch) 2) → Behind v [] v
+    left ch is both = nothing (subst⁻¹ (λ (c : Channels). T (eqb (validChannels c) 2)) is both) none
 
--- .. as a fresh one is, ..
+    start : (ch : Channels) → v .channels ≡ ch → Behind v [] v
+    start All is = all is
+    start Without1 is = left Without1 is tt
+    start Without2 is = left Without2 is tt
+    start Without3 is = left Without3 is tt
+    start Nothing is = absurd (subst T (sym (ap noneLeft is) ∙ valid) tt)
+
+-- .. as a fresh one is.
 pub fresh-invalid-exactly : (held : Bool) (rs : List Reading) → T (isInvalid (heardAll (freshWith held) rs)) ↔ ThreeDiffer (freshWith held) rs
 unfolding freshWith
-fresh-invalid-exactly held = invalid-exactly (freshWith held) refl
-
--- .. and from one with two valid and count 0.
-pub invalid-exactly-of-two :
-    (v : Voter) → T (hasTwo v) → v .count ≡ 0 → (rs : List Reading) → T (isInvalid (heardAll v rs)) ↔ ThreeDiffer v rs
-invalid-exactly-of-two v left none rs = (invalid-had-three v (nothing left none) rs, three-is-invalid v rs)
+fresh-invalid-exactly held = invalid-exactly (freshWith held) (fresh-is-valid held) refl

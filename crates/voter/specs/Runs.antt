@@ -1,4 +1,5 @@
--- Request K5 over samples in a row: what its laws speak of, in its words and not by the count. Only accepted samples are heard here.
+-- Request K5 over samples in a row: what its laws speak of, in its words. The count comes in only where a law starts (`Quiet`) and where it
+-- is said what it can be (`CountKept`). Only accepted samples are heard here.
 -- Assumes nothing.
 use Prim.Native.Nat.{ℕ, _≤_}
 use mathlib.Core.Bool.{Bool, true, not, Bool·beq}
