@@ -273,6 +273,7 @@ pub fn adversarial(r: &mut Rng, from: Option<&Rig>) -> Tape {
     let mut tape = Tape::onward(rig, std::array::from_fn(|_| r.draw() as u32 & SENSORS));
     let mut after_red = r.range(3, 40);
     let mut bounce = Bounce { channel: 0, sensors: 0, rows: 0 };
+    let on = if from.is_some() { r.range(1, 4) } else { 0 };
     while tape.rows < count && after_red > 0 {
         let elapsed = pace.next(r);
         if from.is_some() {
@@ -298,7 +299,11 @@ pub fn adversarial(r: &mut Rng, from: Option<&Rig>) -> Tape {
             if attempt > 3 {
                 next = repair(&tape.rig, elapsed, next, attempt > 15);
             }
-            sample = if from.is_some() { bounce.of(r, &tape.rig, next) } else { same(next) };
+            sample = match from {
+                Some(_) if tape.rows < on => bounced(&tape.rig, next),
+                Some(_) => bounce.of(r, &tape.rig, next),
+                None => same(next),
+            };
             if !tape.would_be_red(elapsed, sample) || !r.permille(patience) {
                 break;
             }
@@ -308,6 +313,17 @@ pub fn adversarial(r: &mut Rng, from: Option<&Rig>) -> Tape {
         after_red -= u64::from(tape.red());
     }
     tape
+}
+
+/// A sample in which the channels that are counted say otherwise once more.
+fn bounced(rig: &Rig, seen: u32) -> [u32; 3] {
+    let mut sample = same(seen);
+    for sensor in (0..18).filter(|sensor| rig.counting() >> sensor & 1 == 1) {
+        let valid = (0..3).find(|&n| rig.ok[n] >> sensor & 1 == 1).unwrap_or(0);
+        let channel = rig.counted(sensor).0.checked_sub(1).map_or(valid, |odd| odd as usize);
+        sample[channel] ^= 1 << sensor;
+    }
+    sample
 }
 
 /// A channel that counts and says otherwise of some sensors, for some rows.

@@ -1,8 +1,8 @@
-//! The program `handover` of request K3 but for its files and standard error: a lesson saved as an image,
-//! a trace that goes on from one, an image in words.
+//! The program `handover` of requests K3 and K6 but for its files and standard error: a lesson saved as an image,
+//! a trace that goes on from one, an image in words, an image in the other form.
 
 use crate::dump::waves_from;
-use crate::image::{Image, Untaken};
+use crate::image::{Form, Image, Untaken};
 use crate::rig::{majority, Rig};
 use crate::rules::{Rules, Slip};
 use crate::trace::{replay_from, run, Ended, Row, Sink, Start, Stopped};
@@ -15,12 +15,14 @@ pub enum Task<'a> {
     SaveFrom(&'a [u8]),
     Resume(&'a [u8]),
     Show(&'a [u8]),
+    Convert(Form, &'a [u8]),
 }
 
 /// What there is to say on standard error.
 #[derive(Clone, PartialEq, Eq, Debug)]
 pub enum Said {
     Untaken(Untaken),
+    Unconverted(Untaken),
     Ended(Ended),
     NoRow0,
 }
@@ -29,6 +31,7 @@ impl std::fmt::Display for Said {
     fn fmt(&self, f: &mut std::fmt::Formatter<'_>) -> std::fmt::Result {
         match self {
             Said::Untaken(untaken) => write!(f, "the image is not taken, {untaken}"),
+            Said::Unconverted(untaken) => write!(f, "the image is not converted, {untaken}"),
             Said::Ended(ended) => write!(f, "{ended}"),
             Said::NoRow0 => write!(f, "the trace has no row 0, so there is no image of it"),
         }
@@ -100,6 +103,10 @@ pub fn handover(
 ) -> Result<Option<Said>, Stopped> {
     let image = match task {
         Task::Save => return save(r, Start::Fresh, input, out),
+        Task::Convert(to, bytes) => match Image::convert(r, to, to.bytes(), bytes) {
+            Ok(converted) => return out.write_all(&converted).map(|()| None).map_err(Stopped::Writing),
+            Err(untaken) => return Ok(Some(Said::Unconverted(untaken))),
+        },
         Task::SaveFrom(bytes) | Task::Resume(bytes) | Task::Show(bytes) => match Image::take(r, bytes) {
             Ok(image) => image,
             Err(untaken) => return Ok(Some(Said::Untaken(untaken))),
@@ -163,4 +170,18 @@ pub fn shown_or_refused(r: &Rules, image: &[u8]) -> Vec<u8> {
         (_, Some(Said::Untaken(untaken))) => format!("refusal {}\n", untaken.refusal).into_bytes(),
         (words, _) => words,
     }
+}
+
+/// What is stored for an image and a form: the image in that form, or one line with the refusal. Room that is one byte
+/// short must be refused before the image is looked at, and room that is longer taken; a line says so where it is not.
+pub fn converted_or_refused(r: &Rules, to: Form, image: &[u8]) -> Vec<u8> {
+    let into = |room: usize| Image::convert(r, to, room, image);
+    if !into(to.bytes() - 1).is_err_and(|untaken| untaken.refusal == 8) {
+        return b"not refused with 8\n".to_vec();
+    }
+    let converted = into(to.bytes());
+    if into(to.bytes() + 100) != converted {
+        return b"otherwise with more room\n".to_vec();
+    }
+    converted.unwrap_or_else(|untaken| format!("refusal {}\n", untaken.refusal).into_bytes())
 }

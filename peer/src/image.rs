@@ -1,8 +1,9 @@
-//! Request K3: the controller as an image of 51 XDR items of four bytes each, the taking of an image, and
-//! an image in words.
+//! Requests K3 and K6: the controller as an image of XDR items of four bytes each, in the old form or the new one, the
+//! taking of an image, the same image in the other form, and an image in words.
 //!
-//! An image holds numbers as they stand in its bytes, in or out of range. The controller has no ages: they
-//! are worked out when an image is made, and put back as times of last change when one starts a lesson.
+//! An image holds numbers as they stand in its bytes, in or out of range; one of the old form has no odd channel and no
+//! count, so both are 0. The controller has no ages: they are worked out when an image is made, and put back as times
+//! of last change when one starts a lesson. Likewise it has no counts, but a past.
 
 use crate::dump::WIRES;
 use crate::rig::{Doors, Gears, Rig, CLOSE, EXTEND, GENERAL, HANDLE_CLOCK, OPEN, RETRACT, SENSORS};
@@ -10,39 +11,88 @@ use crate::rules::{Rules, Slip};
 use std::fmt::Write;
 
 pub const SENSOR_COUNT: usize = 18;
-pub const ITEMS: usize = 51;
-pub const BYTES: usize = 4 * ITEMS;
 const INVALID: u32 = 4;
+
+/// The form of K3, and that of K6 with an odd channel and a count behind each held value.
+#[derive(Clone, Copy, PartialEq, Eq, Debug)]
+#[rustfmt::skip]
+pub enum Form { Old, New }
+
+impl Form {
+    /// How many items a sensor has.
+    const fn of_a_sensor(self) -> usize {
+        match self {
+            Form::Old => 2,
+            Form::New => 4,
+        }
+    }
+
+    pub const fn items(self) -> usize {
+        15 + SENSOR_COUNT * self.of_a_sensor()
+    }
+
+    pub const fn bytes(self) -> usize {
+        4 * self.items()
+    }
+
+    /// The form that a length tells.
+    pub fn of(r: &Rules, length: usize) -> Option<Form> {
+        let [old, new] = [Form::Old, Form::New].map(Form::bytes);
+        match r.slip {
+            Slip::LengthInFours if !length.is_multiple_of(4) => None,
+            Slip::LongerTaken | Slip::LengthInFours if length > new => Some(Form::New),
+            Slip::LongerTaken | Slip::LengthInFours if (old..new).contains(&length) => Some(Form::Old),
+            Slip::ShorterTaken if length < old => Some(Form::Old),
+            Slip::ShorterTaken if length < new => Some(Form::New),
+            Slip::OldUntaken if length == old => None,
+            Slip::NewUntaken if length == new => None,
+            _ => [Form::Old, Form::New].into_iter().find(|form| form.bytes() == length),
+        }
+    }
+}
 
 /// What an item is of: a sensor as in the sample, an order as in the output row, the handle's clock.
 #[derive(Clone, Copy, PartialEq, Eq, Debug)]
 #[rustfmt::skip]
-pub enum Item { Stamp, Voter(usize), Held(usize), On(usize), Age(usize), Doors, Gears, Cause }
+pub enum Item {
+    Stamp, Voter(usize), Held(usize), Odd(usize), Count(usize), On(usize), Age(usize), Doors, Gears, Cause,
+}
 
 /// The items in their order.
-pub fn layout(r: &Rules) -> Vec<Item> {
+pub fn layout(r: &Rules, form: Form) -> Vec<Item> {
     let mut all = vec![Item::Stamp];
-    all.extend((0..SENSOR_COUNT).flat_map(|sensor| [Item::Voter(sensor), Item::Held(sensor)]));
+    for sensor in 0..SENSOR_COUNT {
+        all.extend([Item::Voter(sensor), Item::Held(sensor)]);
+        if form == Form::New {
+            all.extend([Item::Odd(sensor), Item::Count(sensor)]);
+        }
+    }
     all.extend((GENERAL..=EXTEND).flat_map(|order| [Item::On(order), Item::Age(order)]));
     all.extend([Item::Age(HANDLE_CLOCK), Item::Doors, Item::Gears, Item::Cause]);
-    misplace(r, &mut all);
+    misplace(r, form, &mut all);
+    if form == Form::New {
+        misplace_counts(r, &mut all);
+    }
     all
 }
 
-/// Faults only: items in other places.
-fn misplace(r: &Rules, all: &mut [Item]) {
+/// Faults only: items of either form in other places.
+fn misplace(r: &Rules, form: Form, all: &mut [Item]) {
     let at = |item| all.iter().position(|&i| i == item).unwrap_or(0);
     let (stamp, voters, orders) = (0, 1..at(Item::On(GENERAL)), at(Item::On(GENERAL))..at(Item::Doors) - 1);
     let (handle, doors, cause) = (orders.end, at(Item::Doors), at(Item::Cause));
+    let each = form.of_a_sensor();
     match r.slip {
-        Slip::HeldBeforeVoter => all[voters].chunks_exact_mut(2).for_each(<[Item]>::reverse),
+        Slip::HeldBeforeVoter => all[voters].chunks_exact_mut(each).for_each(|one| one.swap(0, 1)),
         Slip::AgeBeforeOn => all[orders].chunks_exact_mut(2).for_each(<[Item]>::reverse),
-        Slip::VotersFirst => all[voters].sort_by_key(|item| matches!(item, Item::Held(_))),
+        Slip::VotersFirst => all[voters].sort_by_key(|item| !matches!(item, Item::Voter(_))),
         Slip::SensorsBackwards => {
             all[voters.clone()].reverse();
-            all[voters].chunks_exact_mut(2).for_each(<[Item]>::reverse);
+            all[voters].chunks_exact_mut(each).for_each(<[Item]>::reverse);
         }
-        Slip::LeftRightItems => all[voters].chunks_exact_mut(6).for_each(|three| three.rotate_left(2)),
+        Slip::LeftRightItems => {
+            all[voters].chunks_exact_mut(3 * each).for_each(|three| three.rotate_left(each));
+        }
         Slip::OpenCloseItems => all[orders][2..6].rotate_left(2),
         Slip::RetractExtendItems => all[orders][6..10].rotate_left(2),
         Slip::GeneralLast => all[orders].rotate_left(2),
@@ -50,6 +100,20 @@ fn misplace(r: &Rules, all: &mut [Item]) {
         Slip::DoorsGearsItems => all.swap(doors, doors + 1),
         Slip::CauseFirst => all[stamp + 1..=cause].rotate_right(1),
         Slip::StampLast => all.rotate_left(1),
+        _ => {}
+    }
+}
+
+/// Faults only: odd channels and counts in other places.
+fn misplace_counts(r: &Rules, all: &mut [Item]) {
+    let sensors = 1..1 + SENSOR_COUNT * Form::New.of_a_sensor();
+    let counted = |item: &Item| matches!(item, Item::Odd(_) | Item::Count(_));
+    match r.slip {
+        Slip::CountBeforeOdd => all[sensors].chunks_exact_mut(4).for_each(|one| one.swap(2, 3)),
+        Slip::CountsBeforeHeld => all[sensors].chunks_exact_mut(4).for_each(|one| one[1..].rotate_left(1)),
+        Slip::CountsBeforeVoter => all[sensors].chunks_exact_mut(4).for_each(|one| one.rotate_left(2)),
+        Slip::CountsBehindSensors => all[sensors].sort_by_key(counted),
+        Slip::CountsLast => all.sort_by_key(counted),
         _ => {}
     }
 }
@@ -88,7 +152,7 @@ fn number<T: PartialEq>(list: &[T], of: T) -> u32 {
     list.iter().position(|one| *one == of).unwrap_or(0) as u32
 }
 
-/// Why an image is not taken.
+/// Why an image is not taken, or not converted.
 #[derive(Clone, PartialEq, Eq, Debug)]
 pub struct Untaken {
     pub refusal: u8,
@@ -106,6 +170,9 @@ pub struct Image {
     pub stamp: u32,
     pub voter: [u32; SENSOR_COUNT],
     pub held: [u32; SENSOR_COUNT],
+    /// The channel that was odd in the last samples, 0 for none; in how many they were, or in how many two differed.
+    pub odd: [u32; SENSOR_COUNT],
+    pub count: [u32; SENSOR_COUNT],
     pub on: [u32; 5],
     /// Of the five orders and of the handle.
     pub age: [u32; 6],
@@ -134,6 +201,23 @@ fn voter(r: &Rules, rig: &Rig, sensor: usize) -> u32 {
     }
 }
 
+/// What a sensor's voter has counted: the odd channel and the count.
+fn counted(r: &Rules, rig: &Rig, sensor: usize) -> (u32, u32) {
+    let (odd, count) = rig.counted(sensor);
+    match r.slip {
+        Slip::CountsUnsaved => (0, 0),
+        Slip::OddUnsaved => (0, count),
+        Slip::CountUnsaved => (odd, 0),
+        Slip::SplitUnsaved if odd == 0 => (0, 0),
+        Slip::OddSavedOnlyTwice if count == 1 => (0, 0),
+        Slip::CountSavedAs1 => (odd, count.min(1)),
+        Slip::CountSavedFrom0 => (odd, count.saturating_sub(1)),
+        Slip::OddSavedFrom0 => (odd.saturating_sub(1), count),
+        Slip::SplitSavedAsOdd if odd == 0 && count > 0 => (voter(r, rig, sensor) % 3 + 1, count),
+        _ => (odd, count),
+    }
+}
+
 impl Image {
     pub fn of(r: &Rules, rig: &Rig) -> Image {
         let held = if r.is(Slip::InvalidHeld0) { rig.held & !rig.invalid } else { rig.held };
@@ -148,6 +232,8 @@ impl Image {
             stamp: rig.stamp,
             voter: std::array::from_fn(|sensor| number(&voters(r), voter(r, rig, sensor))),
             held: std::array::from_fn(|sensor| held >> sensor & 1),
+            odd: std::array::from_fn(|sensor| counted(r, rig, sensor).0),
+            count: std::array::from_fn(|sensor| counted(r, rig, sensor).1),
             on,
             age: std::array::from_fn(age),
             doors: number(&doors(r), rig.doors),
@@ -173,7 +259,7 @@ impl Image {
             on: if r.is(Slip::OrdersLost) { 0 } else { on },
             ok: [1, 2, 3].map(|channel| SENSORS & !struck(channel)),
             invalid: bits(|sensor| is(sensor, INVALID)),
-            past: Default::default(), // an image has no place for it
+            past: Rig::past_of(|sensor| self.counted_to_load(r, sensor)),
             held,
             doors: self.doors(r),
             gears: self.gears(r),
@@ -201,6 +287,20 @@ impl Image {
         }
     }
 
+    fn counted_to_load(&self, r: &Rules, sensor: usize) -> (u32, u32) {
+        let (odd, count) = (self.odd[sensor], self.count[sensor]);
+        match r.slip {
+            Slip::CountsUnloaded => (0, 0),
+            Slip::OddUnloaded => (0, count),
+            Slip::CountUnloaded => (odd, 0),
+            Slip::SplitUnloaded if odd == 0 => (0, 0),
+            Slip::CountLoadedAs1 => (odd, count.min(1)),
+            Slip::CountLoadedOneMore if count > 0 => (odd, count + 1),
+            Slip::OddLoadedNext if odd > 0 => (odd % 3 + 1, count),
+            _ => (odd, count),
+        }
+    }
+
     fn voter(&self, r: &Rules, sensor: usize) -> u32 {
         voters(r)[self.voter[sensor].min(INVALID) as usize]
     }
@@ -219,6 +319,8 @@ impl Image {
             Item::Stamp => &mut self.stamp,
             Item::Voter(sensor) => &mut self.voter[sensor],
             Item::Held(sensor) => &mut self.held[sensor],
+            Item::Odd(sensor) => &mut self.odd[sensor],
+            Item::Count(sensor) => &mut self.count[sensor],
             Item::On(order) => &mut self.on[order],
             Item::Age(clock) => &mut self.age[clock],
             Item::Doors => &mut self.doors,
@@ -231,9 +333,15 @@ impl Image {
         *self.clone().item(item)
     }
 
-    /// Most significant byte first.
+    /// As it is saved: in the new form.
     pub fn bytes(&self, r: &Rules) -> Vec<u8> {
-        let numbers = layout(r).into_iter().map(|item| self.number(item));
+        let old = r.is(Slip::SavesOld) || r.is(Slip::SavesOldUncounted) && self.count == [0; SENSOR_COUNT];
+        self.bytes_in(r, if old { Form::Old } else { Form::New })
+    }
+
+    /// Most significant byte first.
+    pub fn bytes_in(&self, r: &Rules, form: Form) -> Vec<u8> {
+        let numbers = layout(r, form).into_iter().map(|item| self.number(item));
         match r.slip {
             Slip::LittleEndian => numbers.flat_map(u32::to_le_bytes).collect(),
             _ => numbers.flat_map(u32::to_be_bytes).collect(),
@@ -241,50 +349,63 @@ impl Image {
     }
 
     /// The numbers that the bytes hold, of whatever size they are; bytes that are missing are 0.
-    fn numbers(r: &Rules, bytes: &[u8]) -> Image {
+    fn numbers(r: &Rules, form: Form, bytes: &[u8]) -> Image {
         let mut image = Image::default();
-        let bytes: Vec<u8> = bytes.iter().copied().chain(std::iter::repeat(0)).take(BYTES).collect();
-        for (item, four) in layout(r).into_iter().zip(bytes.chunks_exact(4)) {
+        let bytes: Vec<u8> = bytes.iter().copied().chain(std::iter::repeat(0)).take(form.bytes()).collect();
+        for (item, four) in layout(r, form).into_iter().zip(bytes.chunks_exact(4)) {
             let four = [four[0], four[1], four[2], four[3]];
             *image.item(item) = match r.slip {
                 Slip::LittleEndian => u32::from_le_bytes(four),
                 _ => u32::from_be_bytes(four),
             };
         }
+        if form == Form::Old {
+            image.count_wrongly(r);
+        }
         image
     }
 
-    /// Takes an image, or refuses it: 10 for its length or a number out of range, then 11 for a rule.
+    /// Faults only: odd channels and counts that the old form does not have.
+    fn count_wrongly(&mut self, r: &Rules) {
+        for sensor in 0..SENSOR_COUNT {
+            match (r.slip, self.voter[sensor]) {
+                (Slip::OldOdd, 0) => (self.odd[sensor], self.count[sensor]) = (1, 1),
+                (Slip::OldSplit, 1..INVALID) => self.count[sensor] = 1,
+                _ => {}
+            }
+        }
+    }
+
+    /// Takes an image of either form, or refuses it: 10 for its length or a number out of range, then 11 for a rule.
     pub fn take(r: &Rules, bytes: &[u8]) -> Result<Image, Untaken> {
         let (length, rule) = if r.is(Slip::RefusalsSwapped) { (11, 10) } else { (10, 11) };
         if bytes.is_empty() && r.is(Slip::EmptyIsFresh) {
             return Ok(Image::of(r, &Rig::fresh(r, 0)));
         }
-        let taken = match r.slip {
-            Slip::LongerTaken => bytes.len() >= BYTES,
-            Slip::ShorterTaken => bytes.len() <= BYTES,
-            Slip::LengthInFours => bytes.len() >= BYTES && bytes.len().is_multiple_of(4),
-            _ => bytes.len() == BYTES,
+        let Some(form) = Form::of(r, bytes.len()) else {
+            let [old, new] = [Form::Old, Form::New].map(Form::bytes);
+            let why = format!("neither {old} nor {new} bytes but {}", bytes.len());
+            return Err(Untaken { refusal: length, why });
         };
-        if !taken {
-            return Err(Untaken { refusal: length, why: format!("not {BYTES} bytes but {}", bytes.len()) });
-        }
-        let image = Image::numbers(r, bytes);
-        let outside = image.outside(r).map(|why| Untaken { refusal: length, why });
-        let broken = image.broken(r).map(|why| Untaken { refusal: rule, why });
+        let image = Image::numbers(r, form, bytes);
+        let ranged = !r.is(Slip::RangesUnchecked(form));
+        let ruled = !r.is(Slip::RulesUnchecked(form));
+        let outside = image.outside(r, form).filter(|_| ranged).map(|why| Untaken { refusal: length, why });
+        let broken = image.broken(r).filter(|_| ruled).or_else(|| image.broken_count(r));
+        let broken = broken.map(|why| Untaken { refusal: rule, why });
         let first = if r.is(Slip::RuleBeforeRange) { broken.or(outside) } else { outside.or(broken) };
         first.map_or(Ok(image), Err)
     }
 
     /// The first item that is out of range, if there is one.
-    fn outside(&self, r: &Rules) -> Option<String> {
-        (1..).zip(layout(r)).find_map(|(place, item)| {
+    fn outside(&self, r: &Rules, form: Form) -> Option<String> {
+        (1..).zip(layout(r, form)).find_map(|(place, item)| {
             let (value, top) = (self.number(item), top(r, item)?);
-            (!within(r, value, top)).then(|| format!("item {place} is {value}, over {top}"))
+            (!within(r, item, value, top)).then(|| format!("item {place} is {value}, over {top}"))
         })
     }
 
-    /// The rule that is broken, if there is one.
+    /// The rule of K3 that is broken, if there is one.
     fn broken(&self, r: &Rules) -> Option<String> {
         let moving = matches!(self.gears(r), Gears::Extending | Gears::Retracting);
         let checked = !r.is(Slip::MovingUnchecked)
@@ -362,6 +483,122 @@ impl Image {
         odd.then(|| "cause and sensors do not agree".into())
     }
 
+    /// K6: the sensor whose odd channel or count its voter cannot have, if there is one. With all channels valid both
+    /// are 0 or neither; with one struck there is no odd channel; with none valid there is neither.
+    fn broken_count(&self, r: &Rules) -> Option<String> {
+        let breaks = |sensor: &usize| {
+            let (voter, odd, count) =
+                (self.voter(r, *sensor), self.odd[*sensor] != 0, self.count[*sensor] != 0);
+            match voter {
+                0 => odd != count && !self.valid_taken(r, *sensor),
+                INVALID => (odd || count) && !self.invalid_taken(r, *sensor),
+                _ => odd && !self.struck_taken(r, *sensor) || count && r.is(Slip::StruckUncounted),
+            }
+        };
+        let refused = |sensor: &usize| match r.slip {
+            Slip::CountsNeedNoCause => self.cause != 0 && self.count[*sensor] != 0,
+            Slip::CountOnlyFirst => *sensor > 0 && self.count[*sensor] != 0,
+            _ => false,
+        };
+        let sensor = (0..SENSOR_COUNT).find(|sensor| breaks(sensor) || refused(sensor))?;
+        let (name, odd, count) = (WIRES[8 + sensor], self.odd[sensor], self.count[sensor]);
+        let voter = voter_words(r, self.voter(r, sensor));
+        Some(format!("{name} is `{voter}`, its odd channel is {odd} and its count {count}"))
+    }
+
+    /// Faults only: the rule for all channels valid is not asked.
+    fn valid_taken(&self, r: &Rules, sensor: usize) -> bool {
+        match r.slip {
+            Slip::ValidUnchecked => true,
+            Slip::ValidForgets(forgotten) => forgotten == sensor,
+            Slip::OddAloneTaken => self.odd[sensor] != 0,
+            Slip::CountAloneTaken => self.count[sensor] != 0,
+            _ => false,
+        }
+    }
+
+    /// Faults only: the rule for one channel struck is not asked.
+    fn struck_taken(&self, r: &Rules, sensor: usize) -> bool {
+        match r.slip {
+            Slip::StruckUnchecked => true,
+            Slip::StruckForgets(forgotten) => forgotten == sensor,
+            Slip::StruckForgetsChannel(channel) => channel == self.voter[sensor],
+            Slip::StruckOddAloneTaken => self.count[sensor] == 0,
+            Slip::StruckOddCountTaken => self.count[sensor] != 0,
+            Slip::StruckOddSelfTaken => self.odd[sensor] == self.voter[sensor],
+            _ => false,
+        }
+    }
+
+    /// Faults only: the rule for an invalid sensor is not asked.
+    fn invalid_taken(&self, r: &Rules, sensor: usize) -> bool {
+        match r.slip {
+            Slip::InvalidUnchecked => true,
+            Slip::InvalidForgets(forgotten) => forgotten == sensor,
+            Slip::InvalidOddTaken => self.count[sensor] == 0,
+            Slip::InvalidCountTaken => self.odd[sensor] == 0,
+            Slip::InvalidBothTaken => self.odd[sensor] != 0 && self.count[sensor] != 0,
+            _ => false,
+        }
+    }
+
+    /// Whether some count runs, for which the old form has no place.
+    fn counting(&self, r: &Rules) -> bool {
+        (0..SENSOR_COUNT).any(|sensor| match (r.slip, self.odd[sensor], self.count[sensor]) {
+            (Slip::TwelveNever, ..) => false,
+            (Slip::TwelveForOdd, odd, _) => odd != 0,
+            (Slip::TwelveForSplit, odd, count) => odd == 0 && count != 0,
+            (Slip::TwelveAt(at), _, count) => count == at,
+            (Slip::TwelveForgets(forgotten), _, count) => forgotten != sensor && count != 0,
+            (Slip::TwelveForStruck, _, count) => count != 0 || self.voter[sensor] != 0,
+            (_, _, count) => count != 0,
+        })
+    }
+
+    /// An image in the form asked for, into a buffer of so many bytes, or a refusal: 8 for the buffer, 10 and 11 as in
+    /// taking it, 12 where the old form has no place for a count. Nothing is loaded.
+    pub fn convert(r: &Rules, to: Form, room: usize, bytes: &[u8]) -> Result<Vec<u8>, Untaken> {
+        let form = Form::of(r, bytes.len());
+        let short = too_short(r, to, room);
+        if r.is(Slip::SameUnchecked) && form == Some(to) {
+            return short.map_or(Ok(bytes.to_vec()), Err);
+        }
+        let asked = |untaken: &Untaken| !r.is(Slip::ConvertsUnruled) || untaken.refusal != 11;
+        let untaken = Image::take(r, bytes).err().filter(asked);
+        let form = form.unwrap_or(to);
+        let image = Image::numbers(r, form, bytes);
+        let lost = image.has_no_place(r, form, to);
+        first_refusal(r, short, untaken, lost).map_or_else(|| Ok(image.written(r, form, to)), Err)
+    }
+
+    /// 12: the old form has no place for what this image has counted.
+    fn has_no_place(&self, r: &Rules, from: Form, to: Form) -> Option<Untaken> {
+        let lost = match r.slip {
+            Slip::OldGets12 if from == Form::Old => to == Form::Old,
+            Slip::NewGets12 => self.counting(r),
+            _ => to == Form::Old && self.counting(r),
+        };
+        lost.then(|| Untaken { refusal: 12, why: "a count runs, and the old form has none".into() })
+    }
+
+    /// The bytes of an image of one form in the other.
+    fn written(mut self, r: &Rules, from: Form, to: Form) -> Vec<u8> {
+        let other = Rules { slip: Slip::CountsBeforeHeld, ..r.clone() };
+        match (r.slip, from, to) {
+            (Slip::ConvertedStamp0, ..) => self.stamp = 0,
+            (Slip::ConvertedAges0, ..) => self.age = [0; 6],
+            (Slip::WidenedBeforeHeld, Form::Old, Form::New) => return self.bytes_in(&other, to),
+            (Slip::WidenedOdd1, Form::Old, Form::New) => self.odd = [1; SENSOR_COUNT],
+            (Slip::WidenedCount1, Form::Old, Form::New) => self.count = [1; SENSOR_COUNT],
+            (Slip::NarrowedHeld, Form::New, Form::Old) => self.held = self.odd,
+            (Slip::SameUncounted, Form::New, Form::New) => {
+                (self.odd, self.count) = Default::default();
+            }
+            _ => {}
+        }
+        self.bytes_in(r, to)
+    }
+
     /// The image in plain words, 28 lines.
     pub fn words(&self, r: &Rules) -> String {
         let mut text = String::new();
@@ -384,7 +621,8 @@ impl Image {
         }
         for (sensor, name) in sensors.iter().enumerate() {
             let voter = voter_words(r, self.voter(r, sensor));
-            writeln!(text, "{name}: {voter}, held {}", self.held[sensor])?;
+            let counted = counted_words(r, self.odd[sensor], self.count[sensor]);
+            writeln!(text, "{name}: {voter}, held {}{counted}", self.held[sensor])?;
         }
         for (order, name) in names.iter().enumerate() {
             let on = if (self.on[order] != 0) != r.is(Slip::ShownOnOff) { "on" } else { "off" };
@@ -401,14 +639,51 @@ impl Image {
     }
 }
 
+/// 8: a buffer of so many bytes is too short for a form.
+fn too_short(r: &Rules, to: Form, room: usize) -> Option<Untaken> {
+    let needed = match r.slip {
+        Slip::EightNever => 0,
+        Slip::EightForNew => Form::New.bytes(),
+        Slip::EightForOld => Form::Old.bytes(),
+        Slip::EightOneMore => to.bytes() + 1,
+        Slip::EightOneLess => to.bytes() - 1,
+        _ => to.bytes(),
+    };
+    let why = || format!("{room} bytes are no room for {needed}");
+    (room < needed).then(|| Untaken { refusal: 8, why: why() })
+}
+
+/// The first that applies: 8, 10 or 11, 12.
+fn first_refusal(
+    r: &Rules,
+    short: Option<Untaken>,
+    untaken: Option<Untaken>,
+    lost: Option<Untaken>,
+) -> Option<Untaken> {
+    let only = |n: u8| untaken.clone().filter(|untaken| untaken.refusal == n);
+    match r.slip {
+        Slip::EightAfterTen => only(10).or(short).or(only(11)).or(lost),
+        Slip::EightAfterEleven => untaken.or(short).or(lost),
+        Slip::EightLast => untaken.or(lost).or(short),
+        Slip::TwelveBeforeEleven => short.or(only(10)).or(lost).or(only(11)),
+        Slip::TwelveBeforeTen => short.or(lost).or(untaken),
+        Slip::TwelveBeforeEight => lost.or(short).or(untaken),
+        _ => short.or(untaken).or(lost),
+    }
+}
+
 /// The highest number of an item; the stamp has none.
 fn top(r: &Rules, item: Item) -> Option<u32> {
     let top = match item {
         Item::Stamp => return None,
         Item::Voter(sensor) | Item::Held(sensor) if r.is(Slip::SensorUnranged(sensor)) => return None,
+        Item::Odd(sensor) if r.is(Slip::OddUnranged(sensor)) => return None,
+        Item::Count(sensor) if r.is(Slip::CountUnranged(sensor)) => return None,
         Item::Age(clock) if r.is(Slip::AgeUnranged(clock)) => return None,
         Item::Voter(_) => r.top.voter,
         Item::Held(_) => r.top.held,
+        Item::Odd(_) => r.top.odd,
+        Item::Count(_) => r.top.count,
         Item::On(_) => r.top.on,
         Item::Age(HANDLE_CLOCK) => r.top.handle_age,
         Item::Age(_) => r.top.age,
@@ -419,8 +694,11 @@ fn top(r: &Rules, item: Item) -> Option<u32> {
     Some(top)
 }
 
-fn within(r: &Rules, value: u32, top: u32) -> bool {
+fn within(r: &Rules, item: Item, value: u32, top: u32) -> bool {
+    let counted = matches!(item, Item::Odd(_) | Item::Count(_));
     match r.slip {
+        Slip::CountsSigned if counted => value as i32 <= top as i32,
+        Slip::CountsLow16 if counted => value & 0xFFFF <= top,
         Slip::ItemsSigned => value as i32 <= top as i32,
         Slip::ItemsLow16 => value & 0xFFFF <= top,
         _ => value <= top,
@@ -440,6 +718,25 @@ fn voter_words(r: &Rules, voter: u32) -> String {
         0 => "all channels valid".into(),
         INVALID => "invalid".into(),
         channel => format!("channel {} struck", channel - u32::from(r.is(Slip::ShownChannels0))),
+    }
+}
+
+/// What is said of a voter that has counted something.
+fn counted_words(r: &Rules, odd: u32, count: u32) -> String {
+    let many = match (r.slip, count) {
+        (Slip::ShownPlural, _) => format!("{count} samples"),
+        (Slip::ShownSingular, _) | (_, 1) => format!("{count} sample"),
+        _ => format!("{count} samples"),
+    };
+    match (r.slip, odd, count) {
+        (Slip::ShownUncounted, ..) => String::new(),
+        (Slip::ShownCount0, 0, 0) => ", count 0".into(),
+        (_, 0, 0) => String::new(),
+        (Slip::ShownSplitAsOdd, ..) => format!(", channel {odd} odd in {many}"),
+        (Slip::ShownOddAsSplit, ..) | (_, 0, _) => format!(", the two differed in {many}"),
+        (Slip::ShownOddFrom0, ..) => format!(", channel {} odd in {many}", odd - 1),
+        (Slip::ShownOddCountSwapped, ..) => format!(", channel {count} odd in {odd} samples"),
+        _ => format!(", channel {odd} odd in {many}"),
     }
 }
 

@@ -51,7 +51,7 @@ pub enum Gears { Retracted, Extending, Extended, Retracting }
 
 /// What is odd in a sample: by channel, the sensors with three valid channels of which it alone says otherwise; and
 /// the sensors of which the two that are left differ.
-type Odd = [u32; 4];
+pub(crate) type Odd = [u32; 4];
 const SPLIT: usize = 3;
 
 #[derive(Clone, Debug)]
@@ -118,6 +118,25 @@ impl Rig {
     /// The sensors whose voter has counted one sample or two.
     pub fn counting(&self) -> u32 {
         self.past[0].iter().fold(0, |all, odd| all | odd)
+    }
+
+    /// What an image has of a voter's past: the odd channel, 0 for two that differ, and in how many samples.
+    pub fn counted(&self, sensor: usize) -> (u32, u32) {
+        let was = |past: &Odd, n: usize| past[n] >> sensor & 1 == 1;
+        let Some(n) = (0..=SPLIT).find(|&n| was(&self.past[0], n)) else { return (0, 0) };
+        let count = self.past.iter().take_while(|past| was(past, n)).count();
+        (if n == SPLIT { 0 } else { n as u32 + 1 }, count as u32)
+    }
+
+    /// A past of which an image has the same.
+    pub(crate) fn past_of(counted: impl Fn(usize) -> (u32, u32)) -> [Odd; 3] {
+        let mut past = <[Odd; 3]>::default();
+        for sensor in 0..18 {
+            let (odd, count) = counted(sensor);
+            let n = if odd == 0 { SPLIT } else { (odd as usize - 1).min(SPLIT) };
+            past.iter_mut().take(count as usize).for_each(|past| past[n] |= 1 << sensor);
+        }
+        past
     }
 
     pub fn is_on(&self, order: usize) -> bool {

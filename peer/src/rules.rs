@@ -1,12 +1,13 @@
 //! The numbers of document 01 and, for tests, the faults that can be planted.
-//! `Rules::default()` is document 01 with K1's lamps, K2's dumps, K3's images, K4's wall and K5's votes; every
-//! fault moves one number or makes one `Slip`.
+//! `Rules::default()` is document 01 with K1's lamps, K2's dumps, K3's images, K4's wall, K5's votes and K6's forms;
+//! every fault moves one number or makes one `Slip`.
 
+use crate::image::Form;
 use crate::rig::{CLOSE, EXTEND, GENERAL, HANDLE_CLOCK, OPEN, RETRACT};
 
-/// One way of getting document 01 or one of K1 to K5 wrong that is not a moved number. A number in it is a
-/// unit: 0 front, 1 left, 2 right; for images a sensor, an order, a clock, or doors and gears by number; for
-/// the wall a fact, an entry or a place.
+/// One way of getting document 01 or one of K1 to K6 wrong that is not a moved number. A number in it is a
+/// unit: 0 front, 1 left, 2 right; for images a sensor, an order, a clock, a count, or channels, doors and gears by
+/// number; for the wall a fact, an entry or a place.
 #[derive(Clone, Copy, PartialEq, Eq, Debug)]
 #[rustfmt::skip]
 pub enum Slip {
@@ -73,24 +74,43 @@ pub enum Slip {
     ImageBefore, StallNoImage, StampOfRefused, StampOfStart, TornNoImage, ImageWithoutRow0,
     AgesUncapped, AgeOfOff0, HandleAgeOfGeneral, InvalidAsStruck, StruckUnwritten, StruckAsInvalid,
     InvalidHeld0, HeldUnvoted, CauseIsOne,
+    SavesOld, SavesOldUncounted, CountsUnsaved, OddUnsaved, CountUnsaved, SplitUnsaved, OddSavedOnlyTwice,
+    CountSavedAs1, CountSavedFrom0, OddSavedFrom0, SplitSavedAsOdd,
     // Items and numbers, saved and loaded
     LittleEndian, AgeBeforeOn, HeldBeforeVoter, VotersFirst, OpenCloseItems, RetractExtendItems,
     GeneralLast, HandleAgeFirst, DoorsGearsItems, CauseFirst, StampLast, LeftRightItems, SensorsBackwards,
     DoorsRenumbered, DoorsMovesSwapped, GearsEndsSwapped, GearsMovesSwapped, VotersFrom0, VotersBackwards,
+    CountBeforeOdd, CountsBeforeHeld, CountsBeforeVoter, CountsBehindSensors, CountsLast,
     // Taking an image: length, range, order
     LongerTaken, ShorterTaken, LengthInFours, EmptyIsFresh, RuleBeforeRange, RefusalsSwapped,
     ItemsSigned, ItemsLow16, SensorUnranged(usize), AgeUnranged(usize),
+    OldUntaken, NewUntaken, RangesUnchecked(Form), RulesUnchecked(Form), OddUnranged(usize), CountUnranged(usize),
+    CountsSigned, CountsLow16,
     // Its rules
     MovingUnchecked, MovingTakes(u32), MovingForgets(u32), OpenOnlyMoving,
     UnwantedTaken, UnwantedOrder(usize), WantedMustBeOn, OpenWantedOpen,
     RedOrdersTaken, RedOrder(usize), OrdersWithoutGeneral,
     GeneralOffTaken, GeneralOffWith(u32), GeneralOffRed, GeneralOnClosed,
     InvalidTaken, InvalidSensor(usize), InvalidOnly13, Cause13OnlyInvalid, StruckNeedsCause,
+    ValidUnchecked, ValidForgets(usize), OddAloneTaken, CountAloneTaken,
+    StruckUnchecked, StruckForgets(usize), StruckForgetsChannel(u32), StruckOddAloneTaken, StruckOddCountTaken,
+    StruckOddSelfTaken, StruckUncounted,
+    InvalidUnchecked, InvalidForgets(usize), InvalidOddTaken, InvalidCountTaken, InvalidBothTaken,
+    CountsNeedNoCause, CountOnlyFirst,
+    // Converting one
+    EightNever, EightForNew, EightForOld, EightOneMore, EightOneLess, EightAfterTen, EightAfterEleven, EightLast,
+    TwelveNever, TwelveForOdd, TwelveForSplit, TwelveAt(u32), TwelveForgets(usize), TwelveForStruck,
+    TwelveBeforeEleven, TwelveBeforeTen, TwelveBeforeEight, OldGets12, NewGets12, SameUnchecked, ConvertsUnruled,
+    ConvertedStamp0, ConvertedAges0, WidenedBeforeHeld, WidenedOdd1, WidenedCount1, NarrowedHeld, SameUncounted,
     // Starting from one
     StampKept, AgesLost, AgesFrom0, AgeLost(usize), AgesSinceImage, CauseLost, StruckLost, StruckNext,
     InvalidLost, HeldLost, OrdersLost, Row0Stepped, FreshInstead,
+    CountsUnloaded, OddUnloaded, CountUnloaded, SplitUnloaded, CountLoadedAs1, CountLoadedOneMore, OddLoadedNext,
+    OldOdd, OldSplit,
     // Showing one
     ShownCrLf, ShownNoLastLf, ShownThousands, ShownChannels0, ShownCauseNext, ShownOnOff, ShownStampSigned,
+    ShownUncounted, ShownCount0, ShownPlural, ShownSingular, ShownSplitAsOdd, ShownOddAsSplit, ShownOddFrom0,
+    ShownOddCountSwapped,
     // The wall: which entry is asked
     FactsSwapped(usize, usize), FactsBackwards, PlaceBackwards, HandleInIndex, DoorsGearsInIndex, HandleLast,
     IndexNext, EntryWrong(usize),
@@ -109,6 +129,8 @@ pub enum Slip {
 pub struct Tops {
     pub voter: u32,
     pub held: u32,
+    pub odd: u32,
+    pub count: u32,
     pub on: u32,
     pub age: u32,
     pub handle_age: u32,
@@ -154,6 +176,8 @@ impl Default for Rules {
             top: Tops {
                 voter: 4,
                 held: 1,
+                odd: 3,
+                count: 2,
                 on: 1,
                 age: 60_000,
                 handle_age: 60_000,
@@ -467,6 +491,8 @@ pub fn image_faults() -> Vec<(String, Rules)> {
     all.extend(form_faults());
     all.extend(range_faults());
     all.extend(rule_faults());
+    all.extend(count_rule_faults());
+    all.extend(convert_faults());
     all.extend(start_faults());
     all
 }
@@ -491,6 +517,17 @@ fn saving_faults() -> Vec<(String, Rules)> {
         ("image_invalid_held_0", InvalidHeld0),
         ("image_held_from_raw_majority", HeldUnvoted),
         ("image_cause_is_1", CauseIsOne),
+        ("saved_in_old_form", SavesOld),
+        ("saved_in_old_form_without_counts", SavesOldUncounted),
+        ("counts_not_saved", CountsUnsaved),
+        ("odd_not_saved", OddUnsaved),
+        ("count_not_saved", CountUnsaved),
+        ("count_of_two_not_saved", SplitUnsaved),
+        ("count_of_1_not_saved", OddSavedOnlyTwice),
+        ("count_saved_as_1", CountSavedAs1),
+        ("count_saved_one_less", CountSavedFrom0),
+        ("odd_saved_from_0", OddSavedFrom0),
+        ("odd_saved_for_two", SplitSavedAsOdd),
     ])
 }
 
@@ -517,6 +554,11 @@ fn form_faults() -> Vec<(String, Rules)> {
         ("gears_moves_swapped", GearsMovesSwapped),
         ("voters_from_0", VotersFrom0),
         ("voters_backwards", VotersBackwards),
+        ("count_before_odd", CountBeforeOdd),
+        ("odd_and_count_before_held", CountsBeforeHeld),
+        ("odd_and_count_before_voter", CountsBeforeVoter),
+        ("odds_and_counts_behind_sensors", CountsBehindSensors),
+        ("odds_and_counts_last", CountsLast),
     ])
 }
 
@@ -534,7 +576,19 @@ fn range_faults() -> Vec<(String, Rules)> {
         ("items_of_16_bits", ItemsLow16),
         ("first_sensor_any_number", SensorUnranged(0)),
         ("last_sensor_any_number", SensorUnranged(17)),
+        ("old_form_refused", OldUntaken),
+        ("new_form_refused", NewUntaken),
+        ("old_form_any_numbers", RangesUnchecked(Form::Old)),
+        ("new_form_any_numbers", RangesUnchecked(Form::New)),
+        ("counts_signed", CountsSigned),
+        ("counts_of_16_bits", CountsLow16),
     ]);
+    for (name, sensor) in SOME_SENSORS {
+        all.extend(slips(&[
+            (&format!("{name}_odd_any_number")[..], OddUnranged(sensor)),
+            (&format!("{name}_count_any_number")[..], CountUnranged(sensor)),
+        ]));
+    }
     for (name, clock) in CLOCKS {
         all.extend(slips(&[(&format!("{name}_any_number")[..], AgeUnranged(clock))]));
     }
@@ -548,6 +602,8 @@ fn range_faults() -> Vec<(String, Rules)> {
     };
     number("voter", |t| &mut t.voter);
     number("held", |t| &mut t.held);
+    number("odd", |t| &mut t.odd);
+    number("count", |t| &mut t.count);
     number("on", |t| &mut t.on);
     number("order_age", |t| &mut t.age);
     number("handle_age", |t| &mut t.handle_age);
@@ -565,6 +621,8 @@ const CLOCKS: [(&str, usize); 6] = [
     ("extend_age", EXTEND),
     ("handle_age", HANDLE_CLOCK),
 ];
+
+const SOME_SENSORS: [(&str, usize); 3] = [("first", 0), ("middle", 8), ("last", 17)];
 
 /// Refusal 11.
 fn rule_faults() -> Vec<(String, Rules)> {
@@ -593,6 +651,8 @@ fn rule_faults() -> Vec<(String, Rules)> {
         ("invalid_needs_cause_13", InvalidOnly13),
         ("cause_13_needs_invalid", Cause13OnlyInvalid),
         ("struck_needs_cause", StruckNeedsCause),
+        ("old_form_any_rule_broken", RulesUnchecked(Form::Old)),
+        ("new_form_any_rule_broken", RulesUnchecked(Form::New)),
     ]);
     for (name, order) in &CLOCKS[CLOSE..=EXTEND] {
         let name = name.trim_end_matches("_age");
@@ -600,6 +660,80 @@ fn rule_faults() -> Vec<(String, Rules)> {
             (&format!("unwanted_{name}_taken")[..], UnwantedOrder(*order)),
             (&format!("{name}_with_cause_taken")[..], RedOrder(*order)),
         ]));
+    }
+    all
+}
+
+/// Refusal 11 for odd channels and counts.
+fn count_rule_faults() -> Vec<(String, Rules)> {
+    use Slip::*;
+    let mut all = slips(&[
+        ("all_valid_any_count", ValidUnchecked),
+        ("odd_without_count_taken", OddAloneTaken),
+        ("count_without_odd_taken", CountAloneTaken),
+        ("struck_any_odd", StruckUnchecked),
+        ("struck_odd_without_count_taken", StruckOddAloneTaken),
+        ("struck_odd_with_count_taken", StruckOddCountTaken),
+        ("struck_odd_itself_taken", StruckOddSelfTaken),
+        ("struck_count_refused", StruckUncounted),
+        ("invalid_any_count", InvalidUnchecked),
+        ("invalid_odd_taken", InvalidOddTaken),
+        ("invalid_count_taken", InvalidCountTaken),
+        ("invalid_odd_and_count_taken", InvalidBothTaken),
+        ("count_with_cause_refused", CountsNeedNoCause),
+        ("count_but_of_first_sensor_refused", CountOnlyFirst),
+    ]);
+    for (name, sensor) in SOME_SENSORS {
+        all.extend(slips(&[
+            (&format!("all_valid_{name}_any_count")[..], ValidForgets(sensor)),
+            (&format!("struck_{name}_any_odd")[..], StruckForgets(sensor)),
+            (&format!("invalid_{name}_any_count")[..], InvalidForgets(sensor)),
+        ]));
+    }
+    for channel in 1..=3 {
+        all.extend(slips(&[(
+            &format!("channel_{channel}_struck_any_odd")[..],
+            StruckForgetsChannel(channel),
+        )]));
+    }
+    all
+}
+
+/// Refusals 8 and 12, and what is converted.
+fn convert_faults() -> Vec<(String, Rules)> {
+    use Slip::*;
+    let mut all = slips(&[
+        ("converted_without_8", EightNever),
+        ("converted_8_under_348", EightForNew),
+        ("converted_8_under_204", EightForOld),
+        ("converted_8_one_more", EightOneMore),
+        ("converted_8_one_less", EightOneLess),
+        ("converted_8_after_10", EightAfterTen),
+        ("converted_8_after_11", EightAfterEleven),
+        ("converted_8_after_12", EightLast),
+        ("converted_without_12", TwelveNever),
+        ("converted_12_for_odd_only", TwelveForOdd),
+        ("converted_12_for_two_only", TwelveForSplit),
+        ("converted_12_at_count_1_only", TwelveAt(1)),
+        ("converted_12_at_count_2_only", TwelveAt(2)),
+        ("converted_12_for_struck_too", TwelveForStruck),
+        ("converted_12_before_11", TwelveBeforeEleven),
+        ("converted_12_before_10", TwelveBeforeTen),
+        ("converted_12_before_8", TwelveBeforeEight),
+        ("converted_12_for_old", OldGets12),
+        ("converted_12_for_new", NewGets12),
+        ("converted_unchecked_where_in_form", SameUnchecked),
+        ("converted_without_11", ConvertsUnruled),
+        ("converted_stamp_lost", ConvertedStamp0),
+        ("converted_ages_lost", ConvertedAges0),
+        ("widened_before_held", WidenedBeforeHeld),
+        ("widened_with_odd_1", WidenedOdd1),
+        ("widened_with_count_1", WidenedCount1),
+        ("narrowed_to_voter_and_odd", NarrowedHeld),
+        ("counts_lost_from_new_to_new", SameUncounted),
+    ]);
+    for (name, sensor) in SOME_SENSORS {
+        all.extend(slips(&[(&format!("converted_12_forgets_{name}")[..], TwelveForgets(sensor))]));
     }
     all
 }
@@ -621,6 +755,15 @@ fn start_faults() -> Vec<(String, Rules)> {
         ("loaded_row_0_voted", Row0Used),
         ("loaded_row_0_is_a_step", Row0Stepped),
         ("fresh_start_instead_of_image", FreshInstead),
+        ("loaded_counts_lost", CountsUnloaded),
+        ("loaded_odd_lost", OddUnloaded),
+        ("loaded_count_lost", CountUnloaded),
+        ("loaded_count_of_two_lost", SplitUnloaded),
+        ("loaded_count_as_1", CountLoadedAs1),
+        ("loaded_count_one_more", CountLoadedOneMore),
+        ("loaded_odd_next_channel", OddLoadedNext),
+        ("old_form_with_odd_channels", OldOdd),
+        ("old_form_with_counts_of_two", OldSplit),
     ]);
     for (name, clock) in CLOCKS {
         all.extend(slips(&[(&format!("loaded_{name}_lost")[..], AgeLost(clock))]));
@@ -633,6 +776,14 @@ fn start_faults() -> Vec<(String, Rules)> {
         ("shown_next_cause", ShownCauseNext),
         ("shown_on_and_off_swapped", ShownOnOff),
         ("shown_stamp_signed", ShownStampSigned),
+        ("shown_without_counts", ShownUncounted),
+        ("shown_with_count_0", ShownCount0),
+        ("shown_1_samples", ShownPlural),
+        ("shown_2_sample", ShownSingular),
+        ("shown_two_as_channel_0", ShownSplitAsOdd),
+        ("shown_odd_as_two", ShownOddAsSplit),
+        ("shown_odd_from_0", ShownOddFrom0),
+        ("shown_odd_and_count_swapped", ShownOddCountSwapped),
     ]));
     all
 }

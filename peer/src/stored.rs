@@ -1,12 +1,13 @@
 //! What is stored for the crate `cases`: the files of its folder `data`, each case with one line that says what
 //! it is for, and `args` and `stdout`, which name and count them. `wanted` makes all of it anew, but for the
-//! traces that were given; `read` takes it in. (The folder `trial`, and what stands behind the counts in `stdout`, are
+//! traces and images that were given; `read` takes it in. (The folder `trial`, and what stands behind the counts in `stdout`, are
 //! made by the project's bin/stored.)
 
 use crate::dump::{sheet_bytes, waves_bytes};
 use crate::dump_vectors::{dumps, DUMPS_OF_TRACES};
-use crate::handover::{handover_bytes, shown_or_refused, Task};
-use crate::image_vectors::{images, onwards, own, IMAGES_OF_TRACES};
+use crate::handover::{converted_or_refused, handover_bytes, shown_or_refused, Task};
+use crate::image::Form;
+use crate::image_vectors::{forms, images, onwards, own, IMAGES_OF_TRACES};
 use crate::rules::Rules;
 use crate::trace::replay_bytes;
 use crate::vectors::{brushed_twice, vectors};
@@ -15,8 +16,9 @@ use std::collections::BTreeMap;
 use std::io::{self, ErrorKind::NotFound};
 use std::path::Path;
 
-/// The groups of cases, in the words of `cases`, and the ending of what must be written.
-const GROUPS: [(&str, &str); 8] = [
+/// The groups of cases, in the words of `cases`, and the ending of what must be written; of `forms`, that of what is
+/// converted.
+const GROUPS: [(&str, &str); 9] = [
     ("rows", "out"),
     ("dumps", "vcd"),
     ("values", "csv"),
@@ -24,6 +26,7 @@ const GROUPS: [(&str, &str); 8] = [
     ("images", "img"),
     ("onward", "out"),
     ("words", "txt"),
+    ("forms", "img"),
     ("table", "csv"),
 ];
 
@@ -202,6 +205,14 @@ impl Store {
         self.cases[place].push(format!("{folder}/{name}"));
     }
 
+    /// An image, and what it is in both forms.
+    fn forms(&mut self, name: &str, why: &str, image: Vec<u8>) {
+        let rules = Rules::default();
+        self.given("forms", name, "new", converted_or_refused(&rules, Form::New, &image));
+        self.given("forms", name, "old", converted_or_refused(&rules, Form::Old, &image));
+        self.case("forms", "forms", name, why, image);
+    }
+
     fn all(mut self) -> Files {
         for (folder, lines) in &self.index {
             let text: String = lines.iter().map(|(name, why)| format!("{name}: {why}\n")).collect();
@@ -218,10 +229,22 @@ impl Store {
     }
 }
 
-/// A trace that was given.
+/// A trace or an image that was given.
 fn read_given(cases: &Path, name: &str) -> io::Result<Vec<u8>> {
-    let path = cases.join(format!("data/traces/{name}.in"));
+    let path = cases.join("data").join(name);
     std::fs::read(&path).map_err(|e| io::Error::new(e.kind(), format!("{}: {e}", path.display())))
+}
+
+/// How many images were given to be converted.
+const GIVEN_IMAGES: usize = 40;
+
+/// What there is to say of an image that was given.
+fn of_given(image: &[u8]) -> String {
+    let to = |form| match String::from_utf8(converted_or_refused(&Rules::default(), form, image)) {
+        Ok(line) if line.starts_with("refusal ") => line.trim_end().to_string(),
+        _ => "converted".into(),
+    };
+    format!("{} bytes, given; to new: {}, to old: {}", image.len(), to(Form::New), to(Form::Old))
 }
 
 /// All that is to be stored; `cases` is the folder that has the given traces.
@@ -233,8 +256,10 @@ pub fn wanted(cases: &Path) -> io::Result<Files> {
     for (name, why) in TRACES {
         let text = match made.remove(name).or_else(|| own(name)) {
             Some(text) => text,
-            None if name == "lesson_brushed_twice" => brushed_twice(&read_given(cases, "lesson_clean")?),
-            None => read_given(cases, name)?,
+            None if name == "lesson_brushed_twice" => {
+                brushed_twice(&read_given(cases, "traces/lesson_clean.in")?)
+            }
+            None => read_given(cases, &format!("traces/{name}.in"))?,
         };
         store.given("traces", name, "in", text.clone());
         store.case("rows", "traces", name, why, replay_bytes(&rules, &text).0);
@@ -270,6 +295,14 @@ pub fn wanted(cases: &Path) -> io::Result<Files> {
     for (name, why, image) in images() {
         store.case("words", "images", name, why, shown_or_refused(&rules, &image));
         store.given("images", name, "img", image);
+    }
+    for n in 1..=GIVEN_IMAGES {
+        let name = format!("given_{n:02}");
+        let image = read_given(cases, &format!("forms/{name}.img"))?;
+        store.forms(&name, &of_given(&image), image);
+    }
+    for (name, why, image) in forms() {
+        store.forms(name, why, image);
     }
     let why = "the sequence, an entry for each handle, place and set of facts";
     store.case("table", "wall", "sequence", why, csv(&rules));
@@ -339,6 +372,9 @@ pub fn write(cases: &Path) -> io::Result<(usize, usize)> {
 /// Name, input, output.
 pub type Vector = (String, Vec<u8>, Vec<u8>);
 
+/// Name, and three files that belong together.
+pub type Three = (String, Vec<u8>, Vec<u8>, Vec<u8>);
+
 /// The cases, by name.
 #[derive(Default)]
 pub struct Data {
@@ -349,15 +385,17 @@ pub struct Data {
     /// Dumps and their sheets.
     pub sheets: Vec<Vector>,
     /// Images, traces that go on from them, and their rows.
-    pub onwards: Vec<(String, Vec<u8>, Vec<u8>, Vec<u8>)>,
+    pub onwards: Vec<Three>,
     /// Images and their words.
     pub words: Vec<Vector>,
+    /// Images, and what they are in the new form and in the old one.
+    pub forms: Vec<Three>,
 }
 
 /// What is stored in a folder `data`; of each kind there must be some.
 pub fn read(data: &Path) -> io::Result<Data> {
     let mut all = Data::default();
-    for folder in ["traces", "dumps", "images", "resumed"] {
+    for folder in ["traces", "dumps", "images", "resumed", "forms"] {
         let mut paths: Vec<_> =
             std::fs::read_dir(data.join(folder))?.map(|e| e.map(|e| e.path())).collect::<Result<_, _>>()?;
         paths.sort();
@@ -369,6 +407,7 @@ pub fn read(data: &Path) -> io::Result<Data> {
                 ("traces", Some("vcd")) => all.dumps.push((name, get("in")?, get("vcd")?)),
                 ("traces", Some("img")) => all.images.push((name, get("in")?, get("img")?)),
                 ("resumed", Some("out")) => all.onwards.push((name, get("img")?, get("in")?, get("out")?)),
+                ("forms", Some("img")) => all.forms.push((name, get("img")?, get("new")?, get("old")?)),
                 (_, Some("csv")) => all.sheets.push((name, get("vcd")?, get("csv")?)),
                 (_, Some("txt")) => all.words.push((name, get("img")?, get("txt")?)),
                 _ => {}
@@ -377,7 +416,7 @@ pub fn read(data: &Path) -> io::Result<Data> {
     }
     let [rows, dumps, images] = [&all.rows, &all.dumps, &all.images].map(Vec::len);
     let [sheets, onwards, words] = [all.sheets.len(), all.onwards.len(), all.words.len()];
-    match [rows, dumps, images, sheets, onwards, words].contains(&0) {
+    match [rows, dumps, images, sheets, onwards, words, all.forms.len()].contains(&0) {
         true => Err(io::Error::other(format!("{} lacks all cases of some kind", data.display()))),
         false => Ok(all),
     }

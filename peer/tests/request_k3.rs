@@ -1,7 +1,8 @@
-//! Request K3, told by the images of Session S after each row and by what must hold of any image.
+//! Request K3, told by the images of Session S after each row and by what must hold of any image, in the form of K3 or
+//! in that of K6, in which images are saved.
 use peer::gen::{cut, trace, KINDS};
-use peer::handover::{handover_bytes, shown_or_refused, Said, Task};
-use peer::image::{layout, Image, Item, BYTES, ITEMS};
+use peer::handover::{converted_or_refused, handover_bytes, shown_or_refused, Said, Task};
+use peer::image::{layout, Form, Image, Item};
 use peer::image_gen::{image, second_trace, IMAGE_KINDS};
 use peer::image_vectors::images;
 use peer::rig::*;
@@ -32,6 +33,11 @@ fn show(image: &[u8]) -> String {
     String::from_utf8(handover_bytes(&Rules::default(), Task::Show(image), b"").0).unwrap()
 }
 
+/// An image in K3's form.
+fn old(image: &[u8]) -> Vec<u8> {
+    handover_bytes(&Rules::default(), Task::Convert(Form::Old, image), b"").0
+}
+
 /// 0, 10 or 11.
 fn refusal(image: &[u8]) -> u8 {
     Image::take(&Rules::default(), image).err().map_or(0, |untaken| untaken.refusal)
@@ -60,8 +66,9 @@ fn session_s_after_each_row() {
     assert_eq!(lines.len(), 12);
     for (label, line) in lines.into_iter().enumerate() {
         let image = save(&rows(&session_s(), label + 1));
-        assert_eq!(format!("{label} {}", hex(&image)), line);
-        assert_eq!((refusal(&image), image.len()), (0, BYTES));
+        assert_eq!(format!("{label} {}", hex(&old(&image))), line);
+        assert_eq!([refusal(&image), refusal(&old(&image))], [0, 0]);
+        assert_eq!([image.len(), old(&image).len()], [348, 204]);
     }
 }
 
@@ -96,36 +103,18 @@ fn the_words_of_session_s() {
     );
 }
 
-/// The last row up to this one after which no voter has counted anything (K5: an image drops what they have counted).
-fn uncounted(trace: &[u8], at: usize) -> usize {
-    let rules = Rules::default();
-    let mut rig = Rig::fresh(&rules, 0);
-    let mut last = 0;
-    for (label, row) in cut(trace)[1..at + 2].iter().enumerate() {
-        let fields: Vec<&[u8]> = row.split(|&b| b == b',').collect();
-        let stamp = std::str::from_utf8(fields[1]).unwrap().parse().unwrap();
-        let channel = |n: usize| (0..18).fold(0, |all, s| all | u32::from(fields[s + 2][n] - b'0') << s);
-        match label {
-            0 => rig = Rig::fresh(&rules, stamp),
-            _ => _ = rig.step(&rules, stamp, [0, 1, 2].map(channel)),
-        }
-        if rig.counting() == 0 {
-            last = label;
-        }
-    }
-    last
-}
-
-/// A trace in form, cut in two: saved after some row, gone on from with the rest under new labels.
+/// A trace in form, cut in two: saved after any row, gone on from with the rest under new labels.
 #[test]
 fn a_lesson_handed_over_is_the_same_lesson() {
-    for seed in 0..200 {
+    let mut counting = 0;
+    for seed in 0..400 {
         let kind = KINDS[seed as usize % (KINDS.len() - 1)];
         let text = trace(seed, kind, None).unwrap();
         let all = cut(&text);
         let last = all.len() - 2;
-        let at = uncounted(&text, (seed as usize * 37) % (last + 1));
+        let at = (seed as usize * 37) % (last + 1);
         let image = save(&rows(&text, at + 1));
+        counting += usize::from(old(&image).is_empty());
         // Row 0 of the second part: the sample does not count, the stamp is that of the last accepted row.
         let stamp = items(&image)[0];
         let mut second = [&all[0][..], b"\r\n"].concat();
@@ -147,6 +136,7 @@ fn a_lesson_handed_over_is_the_same_lesson() {
         assert_eq!(fields(&fields(resumed[1])), fields(&fields(whole[at + 1])), "{kind} {seed}");
         assert_eq!(save_from(&image, &second), save(&text), "{kind} {seed}");
     }
+    assert!(counting > 20, "{counting}");
 }
 
 #[test]
@@ -160,11 +150,12 @@ fn loading_takes_a_new_stamp_and_nothing_else() {
     for seed in 0..600 {
         let bytes = image(seed, "good").unwrap();
         let taken = Image::take(&rules, &bytes).unwrap();
-        assert_eq!(taken.bytes(&rules), bytes, "{seed}");
+        let form = Form::of(&rules, bytes.len()).unwrap();
+        assert_eq!(taken.bytes_in(&rules, form), bytes, "{seed}");
         for stamp in [0, 1, taken.stamp, taken.stamp.wrapping_add(50), u32::MAX] {
             let again = save_from(&bytes, &row_0(stamp));
             assert_eq!(again[..4], stamp.to_be_bytes());
-            assert_eq!(again[4..], bytes[4..], "{seed}");
+            assert_eq!(again[4..], taken.bytes(&rules)[4..], "{seed}");
         }
     }
 }
@@ -179,7 +170,7 @@ fn saved_images_are_taken() {
             empty += 1;
             continue;
         }
-        assert_eq!((image.len(), refusal(&image)), (BYTES, 0), "{seed}");
+        assert_eq!((image.len(), refusal(&image)), (348, 0), "{seed}");
         // So is what comes of going on from it.
         let onward = save_from(&image, &second_trace(seed, &image));
         assert!(onward.is_empty() || refusal(&onward) == 0, "{seed}");
@@ -187,12 +178,20 @@ fn saved_images_are_taken() {
     assert!(empty < 70);
 }
 
-/// K3's ranges and rules as sentences over the 51 numbers; which of the rules are broken.
+/// K3's ranges and rules as sentences over the 51 numbers, then K6's over the other 36, which are 0 in the old form;
+/// which of the rules are broken: 1 to 5, 6 to 8.
 fn by_definition(image: &[u8]) -> (u8, Vec<u8>) {
-    if image.len() != 204 {
-        return (10, vec![]);
-    }
-    let n = items(image);
+    let (n, counted) = match image.len() {
+        204 => (items(image), vec![(0, 0); 18]),
+        348 => {
+            let all = items(image);
+            let sensors: Vec<&[u32]> = all[1..73].chunks(4).collect();
+            let old = sensors.iter().flat_map(|s| [s[0], s[1]]);
+            let n = [all[0]].into_iter().chain(old).chain(all[73..].iter().copied()).collect();
+            (n, sensors.iter().map(|s| (s[2], s[3])).collect())
+        }
+        _ => return (10, vec![]),
+    };
     let ranges = |n: &[u32]| {
         n[1..37].chunks(2).all(|s| s[0] <= 4 && s[1] <= 1)
             && n[37..47].chunks(2).all(|o| o[0] <= 1 && o[1] <= 60_000)
@@ -200,6 +199,7 @@ fn by_definition(image: &[u8]) -> (u8, Vec<u8>) {
             && n[48] <= 3
             && n[49] <= 3
             && n[50] <= 13
+            && counted.iter().all(|&(odd, count)| odd <= 3 && count <= 2)
     };
     if !ranges(&n) {
         return (10, vec![]);
@@ -223,21 +223,34 @@ fn by_definition(image: &[u8]) -> (u8, Vec<u8>) {
     if n[1..37].iter().step_by(2).any(|&voter| voter == 4) && cause == 0 {
         broken.push(5);
     }
+    let voters = || n[1..37].iter().step_by(2).zip(&counted);
+    if voters().any(|(&voter, &(odd, count))| voter == 0 && (odd == 0) != (count == 0)) {
+        broken.push(6);
+    }
+    if voters().any(|(voter, &(odd, _))| (1..=3).contains(voter) && odd != 0) {
+        broken.push(7);
+    }
+    if voters().any(|(&voter, &counted)| voter == 4 && counted != (0, 0)) {
+        broken.push(8);
+    }
     (if broken.is_empty() { 0 } else { 11 }, broken)
 }
 
 #[test]
-fn images_are_taken_exactly_if_k3_says_so() {
-    let mut counts = [0; 3];
-    for seed in 0..12_000 {
+fn images_are_taken_exactly_if_k3_and_k6_say_so() {
+    let mut counts = [[0; 3]; 3];
+    for seed in 0..24_000 {
         let kind = IMAGE_KINDS[seed as usize % IMAGE_KINDS.len()];
         let bytes = image(seed, kind).unwrap();
         let number = refusal(&bytes);
         assert_eq!(number, by_definition(&bytes).0, "{kind} {seed}");
         assert!(kind != "good" || number == 0);
-        counts[[0, 10, 11].iter().position(|&n| n == number).unwrap()] += 1;
+        let form = [204, 348].iter().position(|&n| n == bytes.len()).unwrap_or(2);
+        counts[form][[0, 10, 11].iter().position(|&n| n == number).unwrap()] += 1;
     }
-    assert!(counts.iter().all(|&n| n > 1_000), "{counts:?}");
+    let [old, new, other] = counts;
+    assert!(old.iter().chain(&new).all(|&n| n > 1_000), "{counts:?}");
+    assert!(other[0] + other[2] == 0 && other[1] > 1_000, "{counts:?}");
 }
 
 /// Each item alone, at its top and one past it; what is refused says nothing else.
@@ -246,13 +259,18 @@ fn each_item_has_its_range() {
     let rules = Rules::default();
     let base = Image::take(&rules, &save(&session_s())).unwrap();
     let base = Image { on: [1, 0, 0, 0, 0], doors: 2, gears: 0, ..base };
-    let all = layout(&rules);
-    assert_eq!(all.len(), ITEMS);
-    for item in all {
+    let both = [(Form::Old, 51), (Form::New, 87)].map(|(form, count)| {
+        let all = layout(&rules, form);
+        assert_eq!((all.len(), form.items(), form.bytes()), (count, count, 4 * count));
+        all.into_iter().map(move |item| (form, item))
+    });
+    for (form, item) in both.into_iter().flatten() {
         let top = match item {
             Item::Stamp => u32::MAX,
             Item::Voter(_) => 3,
             Item::Held(_) => 1,
+            // Without the other both break a rule.
+            Item::Odd(_) | Item::Count(_) => 0,
             // One of the four that is on is not wanted here.
             Item::On(order) => u32::from(order == GENERAL),
             Item::Age(_) => 60_000,
@@ -263,12 +281,18 @@ fn each_item_has_its_range() {
         let with = |value: u32| {
             let mut image = base.clone();
             *image.item(item) = value;
-            refusal(&image.bytes(&rules))
+            refusal(&image.bytes_in(&rules, form))
         };
         assert_eq!(with(top), 0, "{item:?}");
         match item {
             Item::Stamp => assert_eq!(with(0), 0),
             Item::Voter(_) => assert_eq!([with(4), with(5), with(u32::MAX)], [11, 10, 10], "{item:?}"),
+            Item::Odd(_) => {
+                assert_eq!([with(1), with(3), with(4), with(u32::MAX)], [11, 11, 10, 10], "{item:?}")
+            }
+            Item::Count(_) => {
+                assert_eq!([with(1), with(2), with(3), with(u32::MAX)], [11, 11, 10, 10], "{item:?}")
+            }
             Item::On(GENERAL) => assert_eq!([with(0), with(2)], [11, 10]),
             Item::On(_) => assert_eq!([with(1), with(2)], [11, 10], "{item:?}"),
             _ => assert_eq!([with(top + 1), with(u32::MAX), with(1 << 31)], [10; 3], "{item:?}"),
@@ -277,11 +301,13 @@ fn each_item_has_its_range() {
 }
 
 #[test]
-fn every_length_but_204_is_10() {
+fn every_length_but_204_and_348_is_10() {
     let image = save(&session_s());
-    for length in (0..BYTES).chain(BYTES + 1..2 * BYTES + 2) {
-        let other: Vec<u8> = image.iter().cycle().take(length).copied().collect();
-        assert_eq!(refusal(&other), 10, "{length}");
+    for image in [old(&image), image] {
+        for length in (0..=700).filter(|length| ![204, 348].contains(length)) {
+            let other: Vec<u8> = image.iter().cycle().take(length).copied().collect();
+            assert_eq!(refusal(&other), 10, "{length}");
+        }
     }
 }
 
@@ -357,18 +383,24 @@ fn the_program_with_its_words_and_files() {
     std::fs::write(&good, &saved).unwrap();
     std::fs::write(&bad, &images().iter().find(|v| v.0 == "bad_open_cause").unwrap().2).unwrap();
     let [save, resume, show, other] = ["save", "resume", "show", "load"].map(Path::new);
+    let [new, old] = ["new", "old"].map(Path::new);
 
     let silent = |out: &[u8]| (out.to_vec(), String::new());
     assert_eq!(program(&[save], &whole), silent(&saved));
     assert_eq!(program(&[save, &good], &whole), silent(&save_from(&saved, &whole)));
     assert_eq!(program(&[resume, &good], &whole), silent(self::resume(&saved, &whole).as_bytes()));
     assert_eq!(program(&[show, &good], b""), silent(self::show(&saved).as_bytes()));
+    assert_eq!(program(&[new, &good], b""), silent(&saved));
+    assert_eq!(program(&[old, &good], b""), silent(&self::old(&saved)));
     // The line and the refusal are told, and what there is of an image is written.
     let (image, line) = program(&[save], &whole[..whole.len() - 40]);
     assert!(image == self::save(&rows(&whole, 11)) && line.contains("line 13: refusal 5"), "{line}");
     assert!(program(&[resume, &good], b"").1.contains("line 1: refusal 5"));
     // Nothing is written, and a line says why.
-    let uses: [&[&Path]; 10] = [
+    let uses: [&[&Path]; 13] = [
+        &[new],
+        &[old, &good, &good],
+        &[old, &none],
         &[],
         &[other],
         &[other, &good],
@@ -384,7 +416,7 @@ fn the_program_with_its_words_and_files() {
         let (out, line) = program(args, &whole);
         assert!(out.is_empty() && !line.is_empty(), "{args:?}");
     }
-    for word in [save, resume, show] {
+    for word in [save, resume, show, new, old] {
         let (out, line) = program(&[word, &bad], &whole);
         assert!(out.is_empty() && line.contains("refusal 11"), "{line}");
     }
@@ -399,6 +431,7 @@ fn the_program_with_its_words_and_files() {
 fn stored_bad_images_are_bad_for_one_reason() {
     for (name, _, bytes) in images() {
         let (number, broken) = by_definition(&bytes);
+        let (form, name) = name.strip_prefix("new_").map_or(("", name), |name| ("new", name));
         assert_eq!(number == 0, name.starts_with("good_"), "{name}");
         let wanted: &[u8] = match name.trim_start_matches("bad_").split_once('_') {
             _ if number != 11 => &[],
@@ -406,6 +439,11 @@ fn stored_bad_images_are_bad_for_one_reason() {
             Some(("close" | "open" | "retract" | "extend", "unwanted" | "cause")) => &[2],
             Some(("close" | "open" | "retract" | "extend", "no_general")) => &[3, 4],
             Some(("opening" | "doors" | "closing", _)) => &[4],
+            Some(("invalid", "no_cause")) => &[5],
+            Some(("odd" | "count", "alone_first" | "alone_middle" | "alone_last")) => &[6],
+            Some(("before", "held")) => &[6],
+            Some(("struck", _)) => &[7],
+            Some(("invalid", _)) if form == "new" => &[8],
             Some(("invalid", _)) => &[5],
             other => panic!("{name}: {other:?}"),
         };
@@ -431,6 +469,10 @@ fn stored_words_are_all_the_words() {
     ["all channels valid", "channel 1 struck", "channel 2 struck", "channel 3 struck", "invalid"]
         .iter()
         .for_each(|voter| [0, 1].iter().for_each(|held| has(&format!(": {voter}, held {held}\n"))));
+    for (n, many) in (1..=3).flat_map(|n| [(n, "1 sample"), (n, "2 samples")]) {
+        has(&format!(": all channels valid, held 0, channel {n} odd in {many}\n"));
+        has(&format!(": channel {n} struck, held 0, the two differed in {many}\n"));
+    }
     ["CLOSED", "OPENING", "OPEN", "CLOSING"].iter().for_each(|doors| has(&format!("doors: {doors}\n")));
     ["RETRACTED", "EXTENDING", "EXTENDED", "RETRACTING"]
         .iter()
@@ -447,6 +489,8 @@ fn every_fault_is_in_some_stored_image() {
         all.images.iter().any(|v| handover_bytes(fault, Task::Save, &v.1).0 != v.2)
             || all.words.iter().any(|v| shown_or_refused(fault, &v.1) != v.2)
             || all.onwards.iter().any(|v| resumed(&v.1, &v.2) != v.3)
+            || all.forms.iter().any(|v| converted_or_refused(fault, Form::New, &v.1) != v.2)
+            || all.forms.iter().any(|v| converted_or_refused(fault, Form::Old, &v.1) != v.3)
     };
     for (name, fault) in image_faults() {
         assert!(seen(&fault), "{name}");

@@ -1,4 +1,5 @@
-// An image and its words: NAME.img must be shown as NAME.txt, and be saved again as it was; one that is refused is shown as its refusal.
+// An image and its words: NAME.img must be shown as NAME.txt, and be saved again as it was, in the new form; one that is refused is shown as
+// its refusal.
 use crate::files;
 use crate::parts;
 use controller::Answer;
@@ -25,7 +26,7 @@ fn shown(image: &[u8], stored: &[u8]) -> bool {
     if answer.refusal == 0 {
         return in_words(state, stored) & saved_again(state, image);
     }
-    refused(answer.refusal, stored)
+    parts::refused(answer.refusal, stored)
 }
 
 // Whether the words of a controller are as stored.
@@ -35,17 +36,11 @@ fn in_words(state: State, stored: &[u8]) -> bool {
     parts::is_all(stored, 0, &out, n)
 }
 
-// Whether a controller is saved as the image that it was loaded from.
+// Whether a controller is saved as the image that it was loaded from, in the new form.
 fn saved_again(state: State, image: &[u8]) -> bool {
+    let mut new = [0u8; image::SIZE];
     let mut out = [0u8; image::SIZE];
+    let converted = converting::to_new(image, &mut new);
     let refusal = image::save(state, &mut out);
-    parts::is_all(image, refusal, &out, image::SIZE)
-}
-
-// Whether the refusal is the one that is stored.
-fn refused(refusal: u8, stored: &[u8]) -> bool {
-    if refusal == 10 {
-        return check::same(stored, b"refusal 10\n");
-    }
-    (refusal == 11) & check::same(stored, b"refusal 11\n")
+    (converted == 0) & parts::is_all(&new, refusal, &out, image::SIZE)
 }

@@ -1,8 +1,9 @@
 // Runs stored cases and compares what is written with what is stored, byte for byte. The arguments are groups of cases, each behind
 // the word that says what is compared: rows:, dumps: (of traces), values: (of dumps), broken: (the values before the 9 of what is no
-// dump), images: (that traces leave), onward: (rows from an image), words: (of images) and table: (on the wall). A case is the name of
+// dump), images: (that traces leave), onward: (rows from an image), words: (of images), forms: (of images) and table: (on the wall). A case is the name of
 // its files without their endings. A line is written for each case that differs, or whose rows or values have a refusal that
 // is not stored or lack one that is, and for each group. Behind all groups every word of the programs is run.
+mod conversions;
 mod files;
 mod images;
 mod parts;
@@ -93,6 +94,7 @@ fn case(letter: u8, name: &[u8]) -> bool {
         b'i' => runs::image(name),
         b'o' => runs::onward(name),
         b'w' => images::case(name),
+        b'f' => conversions::case(name),
         b't' => runs::table(name),
         _ => false,
     }

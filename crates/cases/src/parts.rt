@@ -58,6 +58,16 @@ pub(crate) fn is_all(stored: &[u8], refusal: u8, out: &[u8], n: usize) -> bool {
     stored_to(stored, 0, refusal, out, n) == stored.len()
 }
 
+// Whether the refusal of an image is the one that is stored.
+pub(crate) fn refused(refusal: u8, stored: &[u8]) -> bool {
+    match refusal {
+        10 => check::same(stored, b"refusal 10\n"),
+        11 => check::same(stored, b"refusal 11\n"),
+        12 => check::same(stored, b"refusal 12\n"),
+        _ => false,
+    }
+}
+
 // How many bytes are left of the part that a place is in.
 fn left(from: usize, small: bool) -> usize {
     if small {

@@ -1,5 +1,5 @@
 // Every word of the programs, by the functions that the programs call, on stored input that is read in several parts: a CRLF lies across the
-// end of one, and the last row lacks its own. What `save` wrote is shown, gone on from, and still there where nothing was saved. What is
+// end of one, and the last row lacks its own. What `save` wrote is shown, gone on from, converted there and back, and still there where nothing was saved. What is
 // written is held to what the peer wrote.
 use commands::uses::by_words;
 use libc::STDOUT_FILENO;
@@ -11,6 +11,11 @@ const ONWARD: [u8; 15] = *b"trial/onward.in";
 
 const IMAGE: [u8; 16] = *b"trial/lesson.img";
 
+// The same in the old form, and in the new form again.
+const OLD: [u8; 13] = *b"trial/old.img";
+
+const NEW: [u8; 13] = *b"trial/new.img";
+
 // All words, and some that are no use of them.
 pub(crate) fn all() {
     replay(b"trial/lesson.in");
@@ -19,6 +24,9 @@ pub(crate) fn all() {
     save(&IMAGE, &FIRST);
     handover(b"resume", &IMAGE, &ONWARD);
     waves_onward();
+    convert(b"old", &OLD, &IMAGE);
+    convert(b"new", &NEW, &OLD);
+    convert(b"old", &NEW, b"trial/bouncing.img");
     kept();
     no_use();
     wall(b"csv");
@@ -71,6 +79,13 @@ fn wall(word: &[u8]) {
 fn handover(word: &[u8], image: &[u8], path: &[u8]) {
     say(b"handover", word, image, b"", path);
     does(4, b"handover", word, image, b"", path);
+}
+
+// An image is converted; what then stands at the path.
+fn convert(word: &[u8], path: &[u8], image: &[u8]) {
+    say(b"handover", word, path, image, b"/dev/null");
+    does(5, b"handover", word, path, image, b"/dev/null");
+    handover(b"show", path, b"/dev/null");
 }
 
 // A lesson is handed over from a fresh start; what then stands at the path.

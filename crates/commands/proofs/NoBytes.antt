@@ -7,12 +7,13 @@ use mathlib.Core.List.{List, []}
 use mathlib.Core.Path.{_≡_, refl, sym, ap, subst⁻¹, _∙_}
 use lib.ListN.{length, take, length-take}
 use Rattle.controller.specs.Start.{freshOf}
+use Rattle.forms.specs.Forms.{inNewForm}
 use Rattle.image.specs.Images.{fits, refusalOf, loadOf}
 use Rattle.commands.specs.declared.saving.Loaded.{Loaded}
 use Rattle.commands.specs.Loading.{loadedOf, notRead}
 
 pub nothing-loaded : record { taken = false; blank = false; state = freshOf 0; read = 0 } ≡ notRead
-unfolding fits refusalOf loadOf loadedOf notRead
+unfolding inNewForm fits refusalOf loadOf loadedOf notRead
 nothing-loaded = refl
 
 pub of-nothing : (r : Loaded) (buffer : List ℕ) → r ≡ notRead → r ≡ loadedOf (take (r .read) buffer)
@@ -26,3 +27,11 @@ of-bytes r n buffer e fits =
     let long : length (take n buffer) ≡ n = simp length-take (omega arith) in
     let read : r .read ≡ n = ap (λ (x : Loaded). x .read) e ∙ long in
     e ∙ ap (λ (m : ℕ). loadedOf (take m buffer)) (sym read)
+
+-- So many bytes as were read stand in the buffer.
+pub read-within : (r : Loaded) (buffer : List ℕ) → r ≡ loadedOf (take (r .read) buffer) → r .read ≤ length buffer
+unfolding loadedOf
+read-within r buffer e =
+    let few : r .read ≡ length (take (r .read) buffer) = ap (λ (x : Loaded). x .read) e in
+    let most : length (take (r .read) buffer) ≤ length buffer = simp length-take (omega arith) in
+    omega (arith, few, most)

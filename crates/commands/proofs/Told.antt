@@ -17,7 +17,7 @@ use Rattle.image.specs.declared.Fault.the-variants.{Nothing, Length, Item, Rule
 use Rattle.image.specs.Items.{itemCount}
 use Rattle.image.specs.Rules.{rules}
 use Rattle.image.specs.Images.{size}
-use Rattle.plain.specs.Parts.{twoEach, sensorItems, orderItems, restNames, itemNames, ruleWords}
+use Rattle.plain.specs.Parts.{twoEach, fourEach, sensorItems, orderItems, restNames, itemNames, ruleWords}
 use Rattle.plain.proofs.Named.{item-length, rule-length}
 use Rattle.plain.proofs.Sizes.{number-length}
 use Rattle.commands.specs.declared.saving.Reason.{Reason}
@@ -26,7 +26,7 @@ use Rattle.commands.specs.Messages.{reasonWords, lengthWords, faultWords
 
 -- Each item of an image has a name ..
 pub items-named : length itemNames ≡ itemCount
-unfolding twoEach sensorNames orderNames sensorItems orderItems restNames itemNames
+unfolding twoEach fourEach sensorNames orderNames sensorItems orderItems restNames itemNames
 items-named = refl
 
 -- .. and each rule has its words.
@@ -38,10 +38,10 @@ length-fits : (read : ℕ) → length (lengthWords read) ≤ 128
 unfolding lengthWords
 length-fits read = by-test (ltb size read) where
   by-test : (t : Bool)
-      → length (cond t (ascii "refusal 10: it is longer than an image, which has 204 bytes") (ascii "refusal 10: it has " ++ decimal read ++ ascii " bytes, and an image has 204")) ≤ 128
+      → length (cond t (ascii "refusal 10: it is longer than an image, which has 204 or 348 bytes") (ascii "refusal 10: it has " ++ decimal read ++ ascii " bytes, and an image has 204 or 348")) ≤ 128
   by-test true = omega arith
   by-test false =
-      omega (arith, number-length read, length-append (ascii "refusal 10: it has ") (decimal read), length-append (ascii "refusal 10: it has " ++ decimal read) (ascii " bytes, and an image has 204"))
+      omega (arith, number-length read, length-append (ascii "refusal 10: it has ") (decimal read), length-append (ascii "refusal 10: it has " ++ decimal read) (ascii " bytes, and an image has 204 or 348"))
 
 -- What is wrong with the bytes that were read.
 pub fault-fits : (fault : Fault) (read : ℕ) → length (faultWords fault read) ≤ 128

@@ -5,10 +5,11 @@ use mathlib.Core.Bool.{Bool, _&&_, _||_}
 use mathlib.Core.List.{List, []}
 use lib.Dec.{eqb}
 use lib.ListN.{length}
+use Rattle.forms.specs.Forms.{oldSize, newSize}
 use Rattle.controller.specs.Start.{freshOf}
 use Rattle.image.specs.Xdr.{itemsIn}
 use Rattle.image.specs.Items.{itemAt}
-use Rattle.image.specs.Images.{size, refusalOf, loadOf}
+use Rattle.image.specs.Images.{refusalOf, loadOf}
 use Rattle.image.specs.Faults.{isBlank}
 use Rattle.commands.specs.declared.saving.Loaded.{Loaded}
 
@@ -27,6 +28,6 @@ loadedOf bytes =
 unfoldable pub notRead : Loaded
 notRead = loadedOf []
 
--- A file of which so many bytes were read may be replaced by an image: it is empty, or has the length of one.
+-- A file of which so many bytes were read may be replaced by an image: it is empty, or has the length of one of either form.
 abbrev pub mayStand : ℕ → Bool
-mayStand n = eqb n 0 || eqb n size
+mayStand n = eqb n 0 || eqb n oldSize || eqb n newSize

@@ -42,11 +42,11 @@ reasonWords ReadOnly = ascii "the disk is read only"
 reasonWords Full = ascii "the disk is full"
 reasonWords (Other error) = ascii "error " ++ decimal error
 
--- Another length than an image's: so many bytes were read, and no more than one past an image.
+-- The length of neither form: so many bytes were read, and no more than one past the longer.
 unfoldable pub lengthWords : ℕ → List ℕ
 lengthWords read =
-    cond (ltb size read) (ascii "refusal 10: it is longer than an image, which has 204 bytes")
-    (ascii "refusal 10: it has " ++ decimal read ++ ascii " bytes, and an image has 204")
+    cond (ltb size read) (ascii "refusal 10: it is longer than an image, which has 204 or 348 bytes")
+    (ascii "refusal 10: it has " ++ decimal read ++ ascii " bytes, and an image has 204 or 348")
 
 -- What is wrong with the bytes that were read: 10 names the length or the item, 11 the rule.
 abbrev pub faultWords : Fault → ℕ → List ℕ

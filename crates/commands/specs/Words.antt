@@ -14,7 +14,11 @@ use Rattle.controller.specs.Start.{freshOf}
 use Rattle.trace.specs.Header.{sameText}
 use Rattle.reading.specs.Rows.{hasStarted}
 use Rattle.plain.specs.Plain.{plainOf}
+use Rattle.forms.specs.Forms.{oldSize, newSize}
+use Rattle.converting.specs.Converting.{toNewOf, toOldOf}
 use Rattle.commands.specs.declared.saving.Loaded.{Loaded}
+use Rattle.commands.specs.declared.conversions.Form.{Form}
+use Rattle.commands.specs.declared.conversions.Form.the-variants.{New, Old}
 use Rattle.commands.specs.Loading.{loadedOf}
 use Rattle.running.specs.declared.Task.{Task}
 use Rattle.running.specs.declared.Task.the-variants.{Image}
@@ -57,6 +61,32 @@ pub record SavedOnward (answer : Saved) : Type 0 where
 -- What is said of an image that was saved: its path, and of which line it is.
 unfoldable pub savedText : List ℕ → ℕ → List ℕ
 savedText path line = path ++ ascii ": the lesson after line " ++ decimal line ++ lf ∷ []
+
+-- ---- Converting
+
+-- A form has so many bytes, and this is said of an image that was converted to it.
+abbrev pub formSize : Form → ℕ
+formSize New = newSize
+formSize Old = oldSize
+
+abbrev pub formName : Form → List ℕ
+formName New = ascii ": the new form of "
+formName Old = ascii ": the old form of "
+
+-- The conversion to a form, into a lent buffer.
+abbrev pub convertedBy : Form → List ℕ → List ℕ → ℕ × List ℕ
+convertedBy New = toNewOf
+convertedBy Old = toOldOf
+
+-- An image is put there only where one was converted: where there was one for which 0 is given.
+pub record ConvertedRight (form : Form) : Type 0 where
+  pub image : List ℕ
+  pub buffer : List ℕ
+  pub converted : convertedBy form image buffer .0 ≡ 0
+
+-- What is said of it: its path, the form, and the path of the other.
+unfoldable pub convertedText : List ℕ → List ℕ → Form → List ℕ
+convertedText path from form = path ++ formName form ++ from ++ lf ∷ []
 
 -- ---- Showing
 

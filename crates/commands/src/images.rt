@@ -9,6 +9,7 @@ ghost use Rattle.reading.specs.Rows.{hasStarted};
 ghost use Rattle.commands.specs.Words.{LoadedFrom, Onward, SavedFrom, SavedOnward, savedText, shownText, ShownRight};
 use crate::messages;
 use crate::saving;
+use crate::saving::HANDOVER;
 use crate::saving::Loaded;
 use crate::saving::ROOM;
 use controller::State;
@@ -18,9 +19,6 @@ use running::Ran;
 use running::Task;
 use running::Work;
 use running::traces::WAVES;
-
-// The name that these words go by on standard error.
-const HANDOVER: [u8; 8] = *b"handover";
 
 // A run of saving: whether the image stands at its path, and the run of the trace.
 pub struct Saved {
@@ -101,15 +99,8 @@ fn onward(name: &[u8], from: i32, to: i32, task: Task, image: &[u8]) -> Ran
 fn load(name: &[u8], path: &[u8]) -> Loaded
     ensures { λ r. ⌜ LoadedFrom r ⌝ }
 {
-    let loaded = read(name, path);
-    if loaded.blank {
-        messages::say(
-            name,
-            path,
-            b"every item of this image is 0, as a lost write leaves it",
-        );
-    }
-    loaded
+    let mut bytes = [0u8; ROOM];
+    saving::load_told(name, path, &mut bytes)
 }
 
 // Loads the image that stands at a path.

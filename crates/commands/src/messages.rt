@@ -97,12 +97,12 @@ fn put_length(text: &mut [u8], read: usize) -> usize
         return texts::put(
             text,
             0,
-            b"refusal 10: it is longer than an image, which has 204 bytes",
+            b"refusal 10: it is longer than an image, which has 204 or 348 bytes",
         );
     }
     let told = texts::put(text, 0, b"refusal 10: it has ");
     let counted = texts::put_number(text, told, read as u64);
-    texts::put(text, counted, b" bytes, and an image has 204")
+    texts::put(text, counted, b" bytes, and an image has 204 or 348")
 }
 
 // Puts that an item is out of its range.

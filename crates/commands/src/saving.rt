@@ -1,4 +1,4 @@
-// Images by name (request K3): an image is loaded from a file, with a true line for what is wrong with it, and takes the place of a file
+// Images by name (requests K3 and K6): an image is loaded from a file, with a true line for what is wrong with it, and takes the place of a file
 // without ever losing what stood there. What is said is specs/Messages.antt, and what an image that was read gives specs/Loading.antt. Of
 // what an operating system does nothing can be promised: the contracts promise what is made of the bytes.
 ghost use mathlib.Core.Bool.{false};
@@ -11,7 +11,10 @@ use crate::files;
 use crate::messages;
 use controller::State;
 
-// A buffer for an image that is loaded has one byte more than an image, so that a longer file is seen to be no image.
+// The name that the words of images go by on standard error.
+pub(crate) const HANDOVER: [u8; 8] = *b"handover";
+
+// A buffer for an image that is loaded has one byte more than an image of the longer form, so that a longer file is seen to be no image.
 pub(crate) const ROOM: usize = image::SIZE + 1;
 
 // An image that was asked for by its name: whether it was taken, whether every item of it is 0, the controller that it is of, and how many
@@ -61,9 +64,24 @@ pub(crate) fn load(name: &[u8], path: &[u8], buffer: &mut [u8]) -> Loaded
     take_in(name, path, &buffer[..n])
 }
 
+// The same, and of an image in which every item is 0 a line says so.
+pub(crate) fn load_told(name: &[u8], path: &[u8], buffer: &mut [u8]) -> Loaded
+    ensures { λ r. ⌜ r ≡ loadedOf (take (r .read) (now (buffer .exit))) ⌝ }
+{
+    let loaded = load(name, path, buffer);
+    if loaded.blank {
+        messages::say(
+            name,
+            path,
+            b"every item of this image is 0, as a lost write leaves it",
+        );
+    }
+    loaded
+}
+
 // Puts an image at a path: beside what stands there, synced, and then in its place. Where that cannot be it says why in one line, and what
 // stands at the path is as it was. Only an image that is taken is put there, and only where nothing stands, or a file that is empty or has
-// the length of an image.
+// the length of an image of either form.
 pub(crate) fn replace(name: &[u8], path: &[u8], bytes: &[u8]) -> bool
     ensures { λ r. ⌜ (T r → refusalOf (now (bytes .entry)) ≡ 0) ⌝ }
 {
@@ -143,11 +161,11 @@ fn take_in(name: &[u8], path: &[u8], bytes: &[u8]) -> Loaded
     }
 }
 
-// Whether a file of which so many bytes were read may be replaced: it is empty, or has the length of an image.
+// Whether a file of which so many bytes were read may be replaced: it is empty, or has the length of a form.
 fn may_stand(n: usize) -> bool
     ensures { λ r. ⌜ r ≡ mayStand n ⌝ }
 {
-    (n == 0) | (n == image::SIZE)
+    (n == 0) | (n == forms::OLD) | (n == forms::NEW)
 }
 
 // A path that cannot be read is free where nothing stands there, in a directory that there is.

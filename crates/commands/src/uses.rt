@@ -5,6 +5,8 @@
 //   handover save NEW [OLD]  a trace, from a fresh start or from the image OLD; the image of its last state becomes the file NEW (request K3)
 //   handover resume IMAGE    a trace goes on from an image; its rows
 //   handover show IMAGE      an image in plain words
+//   handover new TO FROM     the image FROM in the new form becomes the file TO (request K6)
+//   handover old TO FROM     the same in the old form
 //   wall csv                 the sequence's 512 entries as CSV (request K4)
 //   wall page                a page to print (SVG, A3)
 // Bad use gets one line on standard error, and nothing is written.
@@ -12,6 +14,8 @@ ghost use mathlib.Core.Path.{_≡_};
 ghost use lib.Dec.{T};
 ghost use Rattle.trace.specs.Header.{sameText};
 ghost use Rattle.commands.specs.Words.{isFirstWord};
+use crate::conversions;
+use crate::conversions::Form;
 use crate::images;
 use crate::walls;
 use running::traces;
@@ -77,13 +81,21 @@ fn sheet(count: usize, from: i32, to: i32) -> bool {
     false
 }
 
-fn handover(count: usize, word: &[u8], path: &[u8], old: &[u8], from: i32, to: i32) -> bool {
+fn handover(count: usize, word: &[u8], path: &[u8], other: &[u8], from: i32, to: i32) -> bool {
     if (count == 4) & is(word, b"save") {
         images::save(from, to, path);
         return true;
     }
     if (count == 5) & is(word, b"save") {
-        images::save_onward(from, to, path, old);
+        images::save_onward(from, to, path, other);
+        return true;
+    }
+    if (count == 5) & is(word, b"new") {
+        conversions::convert(to, path, other, Form::New);
+        return true;
+    }
+    if (count == 5) & is(word, b"old") {
+        conversions::convert(to, path, other, Form::Old);
         return true;
     }
     if (count == 4) & is(word, b"resume") {
@@ -96,7 +108,7 @@ fn handover(count: usize, word: &[u8], path: &[u8], old: &[u8], from: i32, to: i
     }
     words::say(
         b"handover",
-        b"use: save NEW [OLD] < TRACE, resume IMAGE < TRACE, or show IMAGE",
+        b"use: save NEW [OLD] < TRACE, resume IMAGE < TRACE, show IMAGE, new TO FROM, or old TO FROM",
     );
     false
 }

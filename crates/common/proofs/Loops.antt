@@ -1,6 +1,6 @@
--- Loops over a list, one element a turn: what a turn adds to `some` and to `eachFrom`.
+-- Loops over a list, one element a turn: what a turn adds to `some`, to `all` and to `eachFrom`.
 -- Assumes nothing.
-use mathlib.Core.Bool.{Bool, false, _||_, or-assoc, or-false}
+use mathlib.Core.Bool.{Bool, true, false, _&&_, _||_, and-assoc, and-true, or-assoc, or-false}
 use mathlib.Core.List.{List, [], _∷_}
 use mathlib.Core.Path.{_≡_, refl, sym, ap, _∙_}
 use Prim.Native.Nat.{ℕ, zero, suc, _+_, _<_, _≤_}
@@ -8,7 +8,7 @@ use native.Mathlib.Nat.{add-zero, zero-add, add-suc, suc-add, le-of-suc-le-suc, 
 use native.Mathlib.Numerals.{add-one}
 use lib.ListN.{length, getD, set, drop, drop-of-length-le}
 use lib.Seq.{drop-cons}
-use Rattle.common.specs.Lists.{some, eachFrom}
+use Rattle.common.specs.Lists.{some, all, eachFrom}
 
 module _ {A : Type 0} where
   -- ---- A search that collects what it has seen
@@ -26,6 +26,16 @@ module _ {A : Type 0} where
   pub some-end : (p : A → Bool) (xs : List A) (i : ℕ) (seen : Bool) → length xs ≤ i → (seen || some p (drop i xs)) ≡ seen
   unfolding some
   some-end p xs i seen h = rw (drop-of-length-le xs h, or-false seen)
+
+  -- ---- The same where every element must pass
+
+  pub all-turn : (p : A → Bool) (xs : List A) (i : ℕ) (d : A) (passed : Bool) → i < length xs → (passed && all p (drop i xs)) ≡ ((passed && p (getD xs i d)) && all p (drop (i + 1) xs))
+  unfolding all
+  all-turn p xs i d passed h = rw (add-one, drop-cons xs i d h, and-assoc passed (p (getD xs i d)) (all p (drop (suc i) xs)))
+
+  pub all-end : (p : A → Bool) (xs : List A) (i : ℕ) (passed : Bool) → length xs ≤ i → (passed && all p (drop i xs)) ≡ passed
+  unfolding all
+  all-end p xs i passed h = rw (drop-of-length-le xs h, and-true passed)
 
   -- ---- A function at each element, in place
 

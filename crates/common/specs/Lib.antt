@@ -6,3 +6,4 @@ pub mod Decimal
 pub mod Lists
 pub mod Lowest
 pub mod OneAnswer
+pub mod Tests

@@ -1,5 +1,5 @@
--- A lesson that is brushed, every bounce forgiven, gets the answers of the clean one but for the counts (request K5); so its rows and its image
--- are the same bytes.
+-- A lesson that is brushed, every bounce forgiven, gets the answers of the clean one but for odd channels and counts (request K5); so its rows are
+-- the same bytes, and so is its image where every count is 0 at its end (request K6).
 -- Assumes nothing.
 use Prim.Native.Nat.{ℕ, suc, _+_, _≤_, _<_}
 use native.Mathlib.Omega.{arith}
@@ -7,16 +7,16 @@ use mathlib.Core.Bool.{Bool, true, false, cond}
 use mathlib.Core.List.{List, [], _∷_, _++_, map}
 use mathlib.Core.Logic.{_↔_}
 use mathlib.Core.Path.{_≡_, refl, sym, ap, ap₂, subst, subst⁻¹, _∙_}
-use lib.Dec.{eqb, eqb→eq}
+use lib.Dec.{T, eqb, eqb→eq}
 use lib.ListN.{length, length-map, getD, List·getD-map}
-use Rattle.common.specs.Lists.{eachFrom}
+use Rattle.common.specs.Lists.{eachFrom, Each}
+use Rattle.common.proofs.Each.{each-by-index}
 use Rattle.voter.specs.declared.Voter.{Voter}
 use Rattle.voter.specs.declared.Channels.the-variants.{All}
 use Rattle.voter.specs.Voting.{uncounted, freshWith, valueOf}
-use Rattle.voter.specs.Items.{countDropped}
-use Rattle.voter.specs.Runs.{Reading, oddIn, majority, heard, ThreeOdd}
+use Rattle.voter.specs.Runs.{Reading, oddIn, majority, agree, heard, ThreeOdd}
 use Rattle.voter.proofs.Laws.{all-were-valid, value-is-of-the-majority}
-use Rattle.voter.proofs.Mirrors.{fresh-loses-nothing, dropped-has-the-value}
+use Rattle.voter.proofs.Kept.{no-odd-agrees}
 use Rattle.voter.proofs.InARow.{all-valid-exactly}
 use Rattle.controller.specs.declared.State.{State}
 use Rattle.controller.specs.declared.Core.{Core}
@@ -28,23 +28,23 @@ use Rattle.controller.specs.Start.{startedAt}
 use Rattle.controller.specs.Lamps.{greenOf, neitherAt, orangeOf, lightsOf, shownOf}
 use Rattle.controller.specs.Samples.{Row, answers, after}
 use Rattle.laws.specs.Reached.{Reached}
-use Rattle.laws.specs.Reached.Reached.{started}
+use Rattle.laws.specs.Reached.Reached.{started, step}
 use Rattle.laws.specs.Times.{next}
-use Rattle.laws.specs.Bounces.{sensorAt, readingAt, readingsAt, AllValid, AllQuiet}
+use Rattle.laws.specs.Bounces.{sensorAt, readingAt, readingsAt, AllValid, AllQuiet, CountsAre0}
 use Rattle.laws.proofs.Stages.{stages, coreStages}
 use Rattle.laws.proofs.Lifted.{coreOn, step-keeps, votes-length, reached-is-allowed}
-use Rattle.laws.proofs.Bounces.{Each, each-by-index, hears-the-accepted}
+use Rattle.laws.proofs.Bounces.{hears-the-accepted}
+use Rattle.laws.proofs.Counts.{counts-tell, agreed-accepted}
 use Rattle.image.specs.Items.{sensorCount}
 use Rattle.image.specs.Images.{imageOf}
-use Rattle.image.specs.Counts.{countsDropped}
-use Rattle.image.proofs.Counts.{invalid-too, dropped-has-the-image}
 use Rattle.lesson.specs.Replay.{resumedOf}
 use Rattle.handing.specs.Handing.{savedOf}
 use Rattle.handing.proofs.Saving.{image-left}
 use Rattle.files.specs.Left.{leftOf}
 use Rattle.files.specs.Traces.{Body, Bears, bodyOf, fileOf, bodiesTo}
 use Rattle.files.proofs.Traces.{what-it-bears-is-answered, left-of-it, row-0-was-read}
-use Rattle.files.specs.Brushed.{Clean, SameButForBounces, Brushed, AllForgiven, butForCounts}
+use Rattle.files.specs.Brushed.{Clean, SameButForBounces, Brushed, AllForgiven, countDropped, countsDropped, butForCounts}
+use Rattle.files.proofs.Dropped.{dropped-has-the-value, fresh-loses-nothing, invalid-too, no-count-no-loss-of-all}
 
 -- ---- What votes say is not the counts
 
@@ -77,7 +77,7 @@ all-heard : (bytes others : List ℕ) → ((i : ℕ) → i < sensorCount → maj
     → (k : ℕ) (vs ws : List Voter) → k + length vs ≤ sensorCount → length vs ≡ length ws
     → EachValid (eachFrom (votesAt bytes) k vs) → EachValid (eachFrom (votesAt others) k ws)
     → map countDropped (eachFrom (votesAt bytes) k vs) ≡ map countDropped (eachFrom (votesAt others) k ws)
-unfolding eachFrom Each
+unfolding eachFrom
 all-heard bytes others same k [] [] some long all other = refl
 all-heard bytes others same k [] (w ∷ ws) some long all other = absurd (omega arith)
 all-heard bytes others same k (v ∷ vs) [] some long all other = absurd (omega arith)
@@ -88,7 +88,7 @@ all-heard bytes others same k (v ∷ vs) (w ∷ ws) some long all other =
 -- ---- Channels that are valid were valid
 
 valid-before-a-vote : (bytes : List ℕ) (k : ℕ) (vs : List Voter) → EachValid (eachFrom (votesAt bytes) k vs) → EachValid vs
-unfolding eachFrom Each
+unfolding eachFrom
 valid-before-a-vote bytes k [] all = tt
 valid-before-a-vote bytes k (v ∷ vs) all = (all-were-valid v _ _ _ (all .0), valid-before-a-vote bytes (suc k) vs (all .1))
 
@@ -213,7 +213,7 @@ forgiven-exactly s quiet rows = (λ forgiven i h. at i (there i h) .1 (forgiven 
 
 pub forgiven-is-valid : (s : State) → AllQuiet s → (rows : List Row) → AllForgiven s rows → EachValid (after s rows .voters)
 forgiven-is-valid s quiet rows forgiven =
-    each-by-index (λ (v : Voter). v .channels ≡ All) (after s rows .voters) (forgiven-exactly s quiet rows .0 forgiven)
+    each-by-index (λ (v : Voter). v .channels ≡ All) (freshWith false) (after s rows .voters) (forgiven-exactly s quiet rows .0 forgiven)
 
 -- ---- A clean lesson has no bounce to forgive.
 
@@ -246,7 +246,23 @@ clean-is-forgiven s eighteen rows clean i within k row =
     let odd = eqb→eq (oddIn (three .first)) k (row .odd .0) in
     omega (arith, row .channel, quiet, odd)
 
+-- And it leaves every count at 0.
+pub clean-leaves-no-count : (s : State) → Reached s → CountsAre0 s → (rows : List Row) → Clean rows → CountsAre0 (after s rows)
+unfolding after
+clean-leaves-no-count s reached none [] clean = none
+clean-leaves-no-count s reached none (r ∷ rows) clean =
+    clean-leaves-no-count (next s r) (step reached (r .0) (r .1))
+    (step-keeps CountsAre0 s (r .0) (r .1) (λ i h. agreed-accepted s reached (r .0) (r .1) agreed i h .count) none) rows (clean .1)
+  where
+    agreed : (i : ℕ) → i < length (s .voters) → T (agree (sensorAt i s .channels) (readingAt i (r .1)))
+    agreed i h = no-odd-agrees (sensorAt i s .channels) (readingAt i (r .1)) (clean .0 i (omega (arith, reached-is-allowed s reached .sensors)))
+
 -- ---- A lesson and the same lesson brushed
+
+reached-after : (s : State) → Reached s → (rows : List Row) → Reached (after s rows)
+unfolding after
+reached-after s reached [] = reached
+reached-after s reached (r ∷ rows) = reached-after (next s r) (step reached (r .0) (r .1)) rows
 
 module _
     (s : State) (reached : Reached s) (quiet : AllQuiet s) (rows others : List Row) (brushed : Brushed rows others)
@@ -259,10 +275,12 @@ module _
   pub brushed-answers-the-same : map butForCounts (answers s rows) ≡ map butForCounts (answers s others)
   brushed-answers-the-same = both .0
 
-  -- .. and the image of what is left is the same.
-  pub brushed-leaves-the-image : imageOf (after s rows) ≡ imageOf (after s others)
-  brushed-leaves-the-image =
-      sym (dropped-has-the-image (after s rows)) ∙ ap imageOf (both .1) ∙ dropped-has-the-image (after s others)
+  -- .. and where every count is 0 at the end of both, so is the controller that is left.
+  pub brushed-leaves-the-same : CountsAre0 (after s rows) → CountsAre0 (after s others) → after s rows ≡ after s others
+  brushed-leaves-the-same none otherNone =
+      sym (no-count-no-loss-of-all (after s rows) (counts-tell (after s rows) (reached-after s reached rows) none))
+      ∙ both .1
+      ∙ no-count-no-loss-of-all (after s others) (counts-tell (after s others) (reached-after s reached others) otherNone)
 
 -- ---- Whole files
 
@@ -276,7 +294,8 @@ shows-the-same [] = refl
 shows-the-same (a ∷ more) = cc (dropped-shows (a .state), shows-the-same more)
 
 -- Two inputs that bear a lesson and the same lesson brushed, with any row 0 of the same stamp: from a reached controller at which all channels
--- are valid and every count is 0 their images are the same bytes, and so are their rows where they end in the same way.
+-- are valid and every count is 0 their rows are the same bytes where they end in the same way, and so are their images where every count is 0
+-- behind both.
 module _
     (s : State) (reached : Reached s) (quiet : AllQuiet s)
     (start again : Row) (rows others : List Row) (times : start .0 ≡ again .0) (brushed : Brushed rows others)
@@ -304,12 +323,13 @@ module _
       ∙ sym (what-it-bears-is-answered s other (again ∷ others) ending otherBears)
 
   pub brushed-image : (ending otherEnding : List ℕ) → Bears input (start ∷ rows) ending → Bears other (again ∷ others) otherEnding
+      → CountsAre0 (after from rows) → CountsAre0 (after from others)
       → savedOf s input ≡ savedOf s other
   unfolding savedOf
-  brushed-image ending otherEnding bears otherBears =
+  brushed-image ending otherEnding bears otherBears none otherNone =
       image-left (leftOf s input) (row-0-was-read s input start rows ending bears)
       ∙ ap imageOf (left-of-it s input start rows ending bears)
-      ∙ brushed-leaves-the-image from (started reached (start .0)) still-quiet rows others brushed forgiven otherForgiven
+      ∙ ap imageOf (brushed-leaves-the-same from (started reached (start .0)) still-quiet rows others brushed forgiven otherForgiven none otherNone)
       ∙ sym
       (image-left (leftOf s other) (row-0-was-read s other again others otherEnding otherBears)
       ∙ ap imageOf (left-of-it s other again others otherEnding otherBears ∙ ap (λ (stamp : ℕ). after (startedAt stamp s) others) (sym times)))

@@ -23,12 +23,11 @@ use Rattle.controller.specs.Steps.{stepOf}
 use Rattle.controller.specs.Lamps.{valuesOf}
 use Rattle.controller.specs.Samples.{Row, after}
 use Rattle.image.specs.Items.{sensorCount}
-use Rattle.image.specs.Counts.{countsDropped}
 use Rattle.laws.specs.Reached.{Reached}
-use Rattle.laws.specs.Reached.Reached.{fresh}
+use Rattle.laws.specs.Reached.Reached.{fresh, started}
 use Rattle.laws.specs.Times.{next}
 use Rattle.laws.proofs.Lifted.{reached-is-allowed}
-use Rattle.laws.specs.Bounces.{AllQuiet}
+use Rattle.laws.specs.Bounces.{AllQuiet, CountsAre0}
 use Rattle.laws.proofs.Bounces.{fresh-is-quiet}
 use Rattle.lesson.specs.Replay.{replayOf}
 use Rattle.lesson.proofs.Law.{replay-is-fresh}
@@ -44,10 +43,10 @@ use Rattle.dumping.specs.Moments.{wiresOf, at, adds, timeAfter, momentsAfter, m
 use Rattle.dumping.proofs.Whole.{no-moments}
 use Rattle.files.specs.Traces.{Bearable, AllBearable, rowsBearing, rowsFor, dueBehind, Ending, Bears}
 use Rattle.files.specs.Traces.Ending.{at-end, at-refusal}
-use Rattle.files.specs.Brushed.{Clean, Brushed, AllForgiven, butForCounts}
+use Rattle.files.specs.Brushed.{Clean, Brushed, AllForgiven, countsDropped, butForCounts}
 use Rattle.files.proofs.EachRow.{readAt}
 use Rattle.files.proofs.Traces.{row-read, a-step, next-due, is-due, due-line}
-use Rattle.files.proofs.Brushed.{dropped-says, dropped-shows, EachValid, same-step, valid-before, as-many, forgiven-is-valid, clean-is-forgiven, brushed-file, brushed-image}
+use Rattle.files.proofs.Brushed.{dropped-says, dropped-shows, EachValid, same-step, valid-before, as-many, forgiven-is-valid, clean-is-forgiven, clean-leaves-no-count, brushed-file, brushed-image}
 
 -- ---- What a step adds
 
@@ -182,11 +181,13 @@ brushed-dump s reached quiet start again rows others times brushed forgiven othe
 
 -- ---- From a fresh start: what `replay` writes, what `waves` writes, and what `save` saves
 
--- Of a clean lesson and the same lesson brushed, every bounce forgiven.
+-- Of a clean lesson and the same lesson brushed, every bounce forgiven; the image where at the end of the brushed one every count is 0.
 pub brushed-lesson : (start again : Row) (rows others : List Row) → start .0 ≡ again .0 → Clean rows → Brushed rows others
     → AllForgiven (startedAt (start .0) (freshOf 0)) others
     → (input other ending : List ℕ) → Bears input (start ∷ rows) ending → Bears other (again ∷ others) ending
-    → (replayOf input ≡ replayOf other) × (wavesOf input ≡ wavesOf other) × (savedOf (freshOf 0) input ≡ savedOf (freshOf 0) other)
+    → (replayOf input ≡ replayOf other) ×
+    (wavesOf input ≡ wavesOf other) ×
+    (CountsAre0 (after (startedAt (start .0) (freshOf 0)) others) → savedOf (freshOf 0) input ≡ savedOf (freshOf 0) other)
 unfolding wavesOf startedAt
 brushed-lesson start again rows others times clean brushed forgiven input other ending bears otherBears =
     let from : State = startedAt (start .0) (freshOf 0) in
@@ -196,5 +197,6 @@ brushed-lesson start again rows others times clean brushed forgiven input other 
           ∙ brushed-file (freshOf 0) (fresh 0) quiet start again rows others times brushed none forgiven input other ending bears otherBears
           ∙ sym (replay-is-fresh other),
       brushed-dump (freshOf 0) (fresh 0) quiet start again rows others times brushed none forgiven input other ending ending bears otherBears,
-      brushed-image (freshOf 0) (fresh 0) quiet start again rows others times brushed none forgiven input other ending ending bears otherBears,
+      λ left. brushed-image (freshOf 0) (fresh 0) quiet start again rows others times brushed none forgiven input other ending ending bears otherBears
+          (clean-leaves-no-count from (started (fresh 0) (start .0)) (λ i h. quiet i h .1) rows clean) left,
     )

@@ -9,8 +9,12 @@ use lib.Dec.{T, eqb, eqb→eq, lit≤}
 use lib.ListN.{length, getD}
 use borrow.Author.Tests.{eqb-true, eqb-false}
 use mir.Facts.{and-yes}
+use Rattle.common.specs.Lists.{Each}
+use Rattle.common.specs.Tests.{every}
+use Rattle.common.proofs.Each.{each-at-index}
 use Rattle.voter.specs.declared.Voter.{Voter}
 use Rattle.voter.specs.declared.Channels.the-variants.{All}
+use Rattle.voter.specs.Voting.{freshWith}
 use Rattle.voter.specs.Numbers.{numberOf}
 use Rattle.voter.specs.Runs.{oddIn, majority}
 use Rattle.voter.proofs.Numbering.{all-by-number}
@@ -19,11 +23,10 @@ use Rattle.controller.specs.Steps.{someOverOne}
 use Rattle.controller.specs.Samples.{Row, after}
 use Rattle.controller.proofs.Computing.{rules}
 use Rattle.image.specs.Items.{sensorCount}
-use Rattle.image.specs.Rules.{every}
 use Rattle.laws.specs.Evenly.{evenly}
 use Rattle.laws.specs.Lesson.{switchSays}
-use Rattle.laws.specs.Bounces.{readingAt}
-use Rattle.laws.proofs.Bounces.{Each, each-at-index, fresh-is-quiet}
+use Rattle.laws.specs.Bounces.{readingAt, CountsAre0}
+use Rattle.laws.proofs.Bounces.{fresh-is-quiet}
 use Rattle.settling.proofs.Demand3.{same}
 use Rattle.lesson.specs.Replay.{replayOf}
 use Rattle.dumping.specs.Moments.{wavesOf}
@@ -60,10 +63,15 @@ tested sample other long over all =
 
 -- Sensors of which all are tested to have their channels valid.
 all-tested : (vs : List Voter) → T (every (map (λ (v : Voter). eqb (numberOf v) 0) vs)) → EachValid vs
-unfolding Each
 all-tested [] all = tt
 all-tested (v ∷ vs) all =
     let parts = and-yes (eqb (numberOf v) 0) _ all in (all-by-number v (eqb→eq (numberOf v) 0 (parts .0)), all-tested vs (parts .1))
+
+-- And to have a count of 0.
+none-tested : (vs : List Voter) → T (every (map (λ (v : Voter). eqb (v .count) 0) vs)) → Each (λ (v : Voter). v .count ≡ 0) vs
+none-tested [] all = tt
+none-tested (v ∷ vs) all =
+    let parts = and-yes (eqb (v .count) 0) _ all in (eqb→eq (v .count) 0 (parts .0), none-tested vs (parts .1))
 
 -- ---- The lesson
 
@@ -103,7 +111,14 @@ unfolding rules startedAt after brushedRows evenly numberOf
 brushed-is-forgiven =
     let left = after (startedAt 0 (freshOf 0)) brushedRows .voters in
     forgiven-exactly (startedAt 0 (freshOf 0)) (fresh-is-quiet 0) brushedRows .1
-    (each-at-index (λ (v : Voter). v .channels ≡ All) left (all-tested left tt))
+    (each-at-index (λ (v : Voter). v .channels ≡ All) (freshWith false) left (all-tested left tt))
+
+-- At its end every count is 0.
+pub brushed-ends-at-0 : CountsAre0 (after (startedAt 0 (freshOf 0)) brushedRows)
+unfolding rules startedAt after brushedRows evenly
+brushed-ends-at-0 =
+    let left = after (startedAt 0 (freshOf 0)) brushedRows .voters in
+    each-at-index (λ (v : Voter). v .count ≡ 0) (freshWith false) left (none-tested left tt)
 
 clean-tested : (sample : List ℕ) → T (allBelow sensorCount (λ (i : ℕ). eqb (oddIn (readingAt i sample)) 0)) → (i : ℕ) → i < sensorCount → oddIn (readingAt i sample) ≡ 0
 clean-tested sample all i h = eqb→eq _ 0 (below sensorCount (λ (i : ℕ). eqb (oddIn (readingAt i sample)) 0) all i h)
@@ -127,6 +142,9 @@ pub brushed-somewhere :
     (replayOf clean ≡ replayOf brushed) × (wavesOf clean ≡ wavesOf brushed) × (savedOf (freshOf 0) clean ≡ savedOf (freshOf 0) brushed))
 unfolding rowZero
 brushed-somewhere =
+    let all =
     brushed-lesson rowZero rowZero cleanRows brushedRows refl it-is-clean it-is-brushed brushed-is-forgiven
     (traceBearing (rowZero ∷ cleanRows)) (traceBearing (rowZero ∷ brushedRows)) []
     (a-trace-bears-its-samples (rowZero ∷ cleanRows) clean-can) (a-trace-bears-its-samples (rowZero ∷ brushedRows) brushed-can)
+    in
+    (all .0, all .1, all .2 brushed-ends-at-0)

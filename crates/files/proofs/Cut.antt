@@ -1,10 +1,10 @@
 -- The rows of a lesson that was handed over are those of the lesson that was not, but for their labels and the row 0 that shows where it
--- goes on, where no count of request K5 runs at the cut.
+-- goes on.
 -- Assumes nothing.
 use Prim.Native.Nat.{ℕ, _+_, _≤_, _<_, _^_}
 use native.Mathlib.Omega.{arith}
 use mathlib.Core.List.{List, [], _∷_, _++_, map}
-use mathlib.Core.Path.{_≡_, refl, sym, ap, subst⁻¹, _∙_}
+use mathlib.Core.Path.{_≡_, refl, sym, ap, _∙_}
 use lib.ListN.{length, length-append, length-map}
 use Rattle.trace.specs.Numbers.{greatest}
 use Rattle.controller.specs.declared.State.{State}
@@ -14,7 +14,6 @@ use Rattle.controller.specs.Steps.{stepOf}
 use Rattle.controller.specs.Lamps.{lightsOf, shownOf}
 use Rattle.controller.specs.Samples.{Row, answers, after}
 use Rattle.image.specs.Images.{loadOf}
-use Rattle.image.specs.Counts.{NoCountRuns}
 use Rattle.laws.specs.Reached.{Reached}
 use Rattle.laws.specs.HandedOver.{butForStamp, SameTimes, ahead, allAhead, Of32Bits}
 use Rattle.laws.proofs.Images.{goes-on-the-same, step-is32, same-times-ahead}
@@ -56,13 +55,11 @@ same-bodies s stamp rows otherRows times =
 
 -- ---- Handed over
 
--- A lesson is cut behind one of its rows, of which there is row 0 at least, and after which no count runs. The image that the first input
--- leaves is saved, and loaded at any stamp, whatever the other laptop held before; the second input bears any row 0, and then the same samples
+-- A lesson is cut behind one of its rows, of which there is row 0 at least. The image that the first input leaves is saved, and loaded at any stamp, whatever the other laptop held before; the second input bears any row 0, and then the same samples
 -- at the same elapsed times, the first of them counted from that row 0.
 -- Each input may be any bytes that bear these, and may end in a refusal.
 pub in-two-files : (s : State) → Reached s
     → (start : Row) (more rest : List Row)
-    → NoCountRuns (after (startedAt (start .0) s) more)
     → (again : Row) (otherRest : List Row)
     → (let left = after (startedAt (start .0) s) more in SameTimes left rest (startedAt (again .0) left) otherRest)
     → (whole first second endOfWhole endOfFirst endOfSecond : List ℕ)
@@ -73,7 +70,7 @@ pub in-two-files : (s : State) → Reached s
     → InTwoFiles (resumedOf s whole) (resumedOf s first) (resumedOf (loadOf before (savedOf s first) stamp .state) second)
     endOfWhole endOfFirst endOfSecond
 unfolding startedAt shownOf lightsOf
-in-two-files s reached start more rest none again otherRest times whole first second w f e wholeBears firstBears secondBears before stamp =
+in-two-files s reached start more rest again otherRest times whole first second w f e wholeBears firstBears secondBears before stamp =
     let from = startedAt (start .0) s in
     let left = after from more in
     let further : List Body → List ℕ = λ bs. fileOf ((0, shownOf left) ∷ bs) ++ e in
@@ -86,8 +83,7 @@ in-two-files s reached start more rest none again otherRest times whole first se
           ∙ ap (λ (bs : List Body). fileOf ((0, shownOf from) ∷ bs) ++ w) (bodies-in-two from more rest);
       until-there = what-it-bears-is-answered s first (start ∷ more) f firstBears;
       from-there =
-          handed-over s reached first (row-0-was-read s first start more f firstBears)
-          (subst⁻¹ NoCountRuns (left-of-it s first start more f firstBears) none) before stamp second
+          handed-over s reached first (row-0-was-read s first start more f firstBears) before stamp second
           ∙ ap (λ (t : State). resumedOf t second) (left-of-it s first start more f firstBears)
           ∙ what-it-bears-is-answered left second (again ∷ otherRest) e secondBears
           ∙ ap further (same-bodies left (again .0) rest otherRest times);
@@ -122,11 +118,9 @@ left-of-32-bits s [] is32 each = is32
 left-of-32-bits s (r ∷ rows) is32 each =
     left-of-32-bits (stepOf s (r .0) (r .1) .state) rows (step-is32 0 s (r .0) (r .1) is32 (omega (arith, each .0 .0))) (each .1)
 
--- So any lesson that a trace in form can bear, cut behind any of its rows after which no count runs, goes on by a clock that is ahead by any
--- number of ms, modulo 2^32.
+-- So any lesson that a trace in form can bear, cut behind any of its rows, goes on by a clock that is ahead by any number of ms, modulo 2^32.
 pub in-two-files-by-another-clock : (s : State) → Reached s
     → (start : Row) (more rest : List Row)
-    → NoCountRuns (after (startedAt (start .0) s) more)
     → InOneTrace ((start ∷ more) ++ rest)
     → (ms : ℕ) (before : State) (stamp : ℕ)
     → (let again : Row = (ahead ms (after (startedAt (start .0) s) more .stamp), start .1) in
@@ -135,7 +129,7 @@ pub in-two-files-by-another-clock : (s : State) → Reached s
     (resumedOf (loadOf before (savedOf s first) stamp .state) (traceBearing (again ∷ allAhead ms rest)))
     [] [] [])
 unfolding startedAt ahead
-in-two-files-by-another-clock s reached start more rest none can ms before stamp =
+in-two-files-by-another-clock s reached start more rest can ms before stamp =
     let left = after (startedAt (start .0) s) more in
     let again : Row = (ahead ms (left .stamp), start .1) in
     let each = can .each in
@@ -150,7 +144,7 @@ in-two-files-by-another-clock s reached start more rest none can ms before stamp
       each = ((omega arith, each .0 .1, each .0 .2), bearable-ahead ms rest each-rest);
       labels = omega (arith, long, length-map {B = Row} rest (λ (r : Row). (ahead ms (r .0), r .1)));
     } in
-    in-two-files s reached start more rest none again (allAhead ms rest)
+    in-two-files s reached start more rest again (allAhead ms rest)
     (same-times-ahead ms left rest is32 (are-of-32-bits rest each-rest))
     (traceBearing ((start ∷ more) ++ rest)) (traceBearing (start ∷ more)) (traceBearing (again ∷ allAhead ms rest))
     [] [] []

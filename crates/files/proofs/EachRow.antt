@@ -28,7 +28,8 @@ use Rattle.reading.specs.declared.Reading.{Reading}
 use Rattle.reading.specs.declared.Came.the-variants.{Answered}
 use Rattle.reading.specs.declared.Heard.{Heard}
 use Rattle.reading.specs.Rows.{nextDue, lineOf, untold, endsAt, headerRow, answerTo, shownRow, noSample, traceRow, rowOf, endOf, readFrom}
-use Rattle.files.specs.Told.{Told, toldOf, toldFrom, told, Each}
+use Rattle.common.specs.Lists.{Each}
+use Rattle.files.specs.Told.{Told, toldOf, toldFrom, told}
 use Rattle.files.specs.RowLaws.{Numbered, CodedBy, Coded, OwnAnswer, AnsweredRight}
 use Rattle.files.specs.RowLaws.OwnAnswer.{starts, steps}
 use Rattle.files.proofs.Refusals.{whichever, FiveSixSeven, row-refusals, sample-refusals}

@@ -15,12 +15,12 @@ use Rattle.controller.specs.declared.State.{State}
 use Rattle.controller.specs.declared.Answer.{Answer}
 use Rattle.controller.specs.Start.{startedAt}
 use Rattle.image.specs.Images.{size, imageOf, saveOf, loadOf}
-use Rattle.image.specs.Counts.{countsDropped, NoCountRuns}
 use Rattle.image.specs.Conditions.{Taken}
-use Rattle.image.proofs.Counts.{no-count-no-loss-of-all}
 use Rattle.laws.specs.Reached.{Reached}
 use Rattle.laws.specs.Reached.Reached.{started, step}
-use Rattle.laws.proofs.Images.{reached-saves, reached-comes-back-but-for-counts}
+use Rattle.laws.proofs.Images.{reached-saves, reached-comes-back}
+use Rattle.laws.proofs.Lifted.{reached-is-allowed}
+use Rattle.image.proofs.RoundTrips.{image-length}
 use Rattle.reading.specs.Rows.{hasStarted, readFrom}
 use Rattle.reading.specs.Whole.{readTo}
 use Rattle.reading.specs.declared.Run.{Run}
@@ -37,7 +37,7 @@ use Rattle.files.specs.Left.{leftOf}
 
 -- ---- Into a lent buffer
 
--- An image of 204 bytes, where there is room.
+-- An image of 348 bytes, where there is room.
 wrote-image : (s : State) (out : List ℕ) → length (imageOf s) ≡ size → size ≤ length out
     → wrote (savedBy (saveOf s out)) ≡ imageOf s
 unfolding saveOf
@@ -50,7 +50,7 @@ wrote-left run out reached fits =
     either (hasStarted (run .reading .phase))
     (λ read.
     ap wrote (with-row-0 run out read)
-    ∙ wrote-image s out (reached-saves s reached .inRange .long) fits
+    ∙ wrote-image s out (image-length s (reached-is-allowed s reached .sensors)) fits
     ∙ sym (image-left (run .reading) read))
     (λ unread. ap wrote (without-row-0 run out unread) ∙ sym (none-left (run .reading) unread))
 
@@ -86,34 +86,17 @@ module _ (state : State) (reached : Reached state) where
         inr (rw (image-left (leftOf state input) read) (reached-saves (leftOf state input .state) (left-is-reached (rowsOf input)))))
         (λ unread. inl (none-left (leftOf state input) unread))
 
-    -- Where row 0 was read, it loads as the controller that was left with its counts at 0, at the new start stamp, whatever the other laptop
-    -- held before ..
-    pub saved-is-loaded-but-for-counts : hasStarted (leftOf state input .phase) ≡ true → (before : State) (stamp : ℕ)
-        → loadOf before (savedOf state input) stamp
-        ≡ record { refusal = 0; state = startedAt stamp (countsDropped (leftOf state input .state)) }
-    unfolding savedOf
-    saved-is-loaded-but-for-counts read before stamp =
-        rw (image-left (leftOf state input) read)
-        (reached-comes-back-but-for-counts (leftOf state input .state) (left-is-reached (rowsOf input)) before stamp)
-
-    -- .. and the lesson goes on from there: of any further trace the same is written as from that controller.
-    pub handed-over-but-for-counts : hasStarted (leftOf state input .phase) ≡ true → (before : State) (stamp : ℕ) (further : List ℕ)
-        → resumedOf (loadOf before (savedOf state input) stamp .state) further
-        ≡ resumedOf (countsDropped (leftOf state input .state)) further
-    handed-over-but-for-counts read before stamp further =
-        ap (λ (a : Answer). resumedOf (a .state) further) (saved-is-loaded-but-for-counts read before stamp)
-        ∙ start-stamp-not-used (countsDropped (leftOf state input .state)) stamp further
-
-    -- Where no count runs in what was left, it loads as the controller that was left ..
-    pub saved-is-loaded : hasStarted (leftOf state input .phase) ≡ true → NoCountRuns (leftOf state input .state)
-        → (before : State) (stamp : ℕ)
+    -- Where row 0 was read, it loads as the controller that was left, at the new start stamp, whatever the other laptop held before ..
+    pub saved-is-loaded : hasStarted (leftOf state input .phase) ≡ true → (before : State) (stamp : ℕ)
         → loadOf before (savedOf state input) stamp ≡ record { refusal = 0; state = startedAt stamp (leftOf state input .state) }
-    saved-is-loaded read none before stamp =
-        rw (no-count-no-loss-of-all (leftOf state input .state) none) at (saved-is-loaded-but-for-counts read before stamp)
+    unfolding savedOf
+    saved-is-loaded read before stamp =
+        rw (image-left (leftOf state input) read)
+        (reached-comes-back (leftOf state input .state) (left-is-reached (rowsOf input)) before stamp)
 
     -- .. and of any further trace the same is written there as from the controller that was left here.
-    pub handed-over : hasStarted (leftOf state input .phase) ≡ true → NoCountRuns (leftOf state input .state)
-        → (before : State) (stamp : ℕ) (further : List ℕ)
+    pub handed-over : hasStarted (leftOf state input .phase) ≡ true → (before : State) (stamp : ℕ) (further : List ℕ)
         → resumedOf (loadOf before (savedOf state input) stamp .state) further ≡ resumedOf (leftOf state input .state) further
-    handed-over read none before stamp further =
-        rw (no-count-no-loss-of-all (leftOf state input .state) none) at (handed-over-but-for-counts read before stamp further)
+    handed-over read before stamp further =
+        ap (λ (a : Answer). resumedOf (a .state) further) (saved-is-loaded read before stamp)
+        ∙ start-stamp-not-used (leftOf state input .state) stamp further

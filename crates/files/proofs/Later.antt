@@ -19,7 +19,8 @@ use Rattle.laws.specs.Times.{acceptedAt, acceptedIn}
 use Rattle.laws.proofs.Latched.{once-red, general-off-in-1000}
 use Rattle.laws.proofs.Starts.{none-starts-as-its-opposite-stops}
 use Rattle.settling.specs.Runs.{next, isTaken, elapsedIn}
-use Rattle.files.specs.Told.{Told, told, Each}
+use Rattle.common.specs.Lists.{Each}
+use Rattle.files.specs.Told.{Told, told}
 use Rattle.files.specs.RowLaws.{Shows}
 use Rattle.files.specs.Stretches.{elapsedOver, stateAfter}
 use Rattle.files.specs.Later.{FromRowToRow, starts, NoneStartsAsItsOppositeStops, OfLaterRows, OnceRed, GeneralOffIn}

@@ -25,7 +25,8 @@ use Rattle.reading.specs.declared.Reading.{Reading}
 use Rattle.reading.specs.declared.Came.{Came}
 use Rattle.reading.specs.declared.Came.the-variants.{Nothing, Answered, Refused}
 use Rattle.reading.specs.Rows.{rowOf, endOf, readFrom}
-use Rattle.files.specs.Told.{Told, toldOf, toldFrom, told, Each}
+use Rattle.common.specs.Lists.{Each}
+use Rattle.files.specs.Told.{Told, toldOf, toldFrom, told}
 use Rattle.files.specs.RowLaws.{OwnAnswer, AnsweredBy, AnsweredRight, Shows, OneMoveAtMost}
 use Rattle.files.specs.RowLaws.OwnAnswer.{starts, steps}
 use Rattle.files.specs.Shown.{LooksLawful}

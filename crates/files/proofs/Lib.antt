@@ -13,6 +13,7 @@ pub mod Traces
 pub mod Bearable
 pub mod Accounts
 pub mod Cut
+pub mod Dropped
 pub mod Brushed
 pub mod BrushedDumps
 pub mod BrushedWorked

@@ -13,7 +13,8 @@ use Rattle.reading.specs.declared.Phase.the-variants.{Rows, Ended}
 use Rattle.reading.specs.declared.Reading.{Reading}
 use Rattle.reading.specs.declared.Heard.{Heard}
 use Rattle.reading.specs.Rows.{endsAt, shownRow, traceRow, rowOf, endOf, readFrom}
-use Rattle.files.specs.Told.{Told, toldOf, toldFrom, told, Each}
+use Rattle.common.specs.Lists.{Each}
+use Rattle.files.specs.Told.{Told, toldOf, toldFrom, told}
 use Rattle.files.specs.RowLaws.{Untold, OneForEach, WholeFile}
 use Rattle.files.specs.RowLaws.OneForEach.{at-end, at-refusal, at-row}
 use Rattle.files.specs.RowLaws.WholeFile.{no-header, behind-header}

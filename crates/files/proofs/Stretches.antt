@@ -20,7 +20,8 @@ use Rattle.laws.proofs.Lifted.{taken-is-accepted}
 use Rattle.settling.specs.Runs.{next, isTaken, elapsedIn}
 use Rattle.reading.specs.declared.Came.{Came}
 use Rattle.reading.specs.declared.Came.the-variants.{Nothing, Answered, Refused}
-use Rattle.files.specs.Told.{Told, told, Linked, Each}
+use Rattle.common.specs.Lists.{Each}
+use Rattle.files.specs.Told.{Told, told, Linked}
 use Rattle.files.specs.RowLaws.{NumberedBy, Numbered, OwnAnswer, OwnRow, AnsweredBy, AnsweredRight, Shows}
 use Rattle.files.specs.RowLaws.OwnAnswer.{starts, steps}
 use Rattle.files.specs.Stretches.{IsAnswered, elapsedAt, elapsedOver, stateAfter, Stretch}

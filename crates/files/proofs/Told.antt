@@ -13,7 +13,8 @@ use Rattle.reading.specs.Rows.{rowOf, readFrom}
 use Rattle.reading.specs.Runs.{inRows}
 use Rattle.lesson.specs.Replay.{textBy, writtenOf, replayOf, resumedOf}
 use Rattle.lesson.proofs.Law.{replay-is-fresh}
-use Rattle.files.specs.Told.{Told, toldFrom, told, textsOf, Linked, Each}
+use Rattle.common.specs.Lists.{Each}
+use Rattle.files.specs.Told.{Told, toldFrom, told, textsOf, Linked}
 
 written-from : (line : ℕ) (reading : Reading) (rows : List (List ℕ)) → writtenOf reading rows ≡ textsOf (toldFrom line reading rows)
 unfolding writtenOf inRows toldFrom textsOf

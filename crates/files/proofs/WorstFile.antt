@@ -36,7 +36,8 @@ use Rattle.reading.specs.declared.Came.the-variants.{Answered}
 use Rattle.reading.specs.declared.Heard.{Heard}
 use Rattle.reading.specs.Rows.{untold, answerTo, shownRow, rowOf, readFrom}
 use Rattle.reading.proofs.Starts.{behind-the-header}
-use Rattle.files.specs.Told.{Told, toldOf, toldFrom, told, Each}
+use Rattle.common.specs.Lists.{Each}
+use Rattle.files.specs.Told.{Told, toldOf, toldFrom, told}
 use Rattle.files.specs.Stretches.{elapsedOver, stateAfter, Stretch}
 use Rattle.files.specs.Between.{Accepts, HandleIs, LooksUnsettledEarly, OfEveryFile, SettlesAt}
 use Rattle.files.specs.Traces.{AllBearable, InOneTrace, rowsBearing, traceBearing, dueBehind}

@@ -14,7 +14,8 @@ use Rattle.controller.specs.Start.{freshOf}
 use Rattle.controller.specs.Lamps.{shownOf}
 use Rattle.controller.specs.Votes.{handle, sensor}
 use Rattle.laws.specs.Reached.{Reached}
-use Rattle.files.specs.Told.{Told, Each}
+use Rattle.common.specs.Lists.{Each}
+use Rattle.files.specs.Told.{Told}
 use Rattle.files.specs.Stretches.{IsAnswered, elapsedOver, stateAfter, Stretch}
 
 -- The row accepts its sample: its code is 0, and it is not row 0, whose sample is not used.

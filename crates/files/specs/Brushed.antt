@@ -1,17 +1,18 @@
 -- Request K5, "Students brush the harness all day": a lesson and the same lesson brushed. Bounces that are forgiven leave nothing behind but
--- the counts, which no row, no dump and no image shows.
+-- odd channels and counts, which no row and no dump shows.
 -- Assumes nothing.
 use Prim.Native.Nat.{ℕ, _<_}
-use mathlib.Core.List.{List, [], _∷_}
+use mathlib.Core.List.{List, [], _∷_, map}
 use mathlib.Core.Path.{_≡_}
 use lib.ListN.{length, replicate}
+use Rattle.voter.specs.declared.Voter.{Voter}
+use Rattle.voter.specs.Voting.{uncounted, valueOf}
 use Rattle.voter.specs.Runs.{oddIn, majority, ThreeOdd}
 use Rattle.controller.specs.declared.State.{State}
 use Rattle.controller.specs.declared.Answer.{Answer}
 use Rattle.controller.specs.Steps.{someOverOne}
 use Rattle.controller.specs.Samples.{Row}
 use Rattle.image.specs.Items.{sensorCount}
-use Rattle.image.specs.Counts.{countsDropped}
 use Rattle.laws.specs.Evenly.{evenly}
 use Rattle.laws.specs.Lesson.{switchSays}
 use Rattle.laws.specs.Bounces.{sensorAt, readingAt, readingsAt}
@@ -39,7 +40,14 @@ Brushed (r ∷ rs) (q ∷ qs) = (r .0 ≡ q .0) × SameButForBounces (r .1) (q .
 abbrev pub AllForgiven : State → List Row → Type 0
 AllForgiven s rows = (i : ℕ) → i < length (s .voters) → (k : ℕ) → ThreeOdd k (sensorAt i s) (readingsAt i s rows) → ⊥
 
--- An answer but for the counts.
+-- A sensor and a controller with odd channels and counts at 0, ..
+abbrev pub countDropped : Voter → Voter
+countDropped v = uncounted (v .channels) (valueOf v)
+
+unfoldable pub countsDropped : State → State
+countsDropped s = record { stamp = s .stamp; voters = map countDropped (s .voters); core = s .core }
+
+-- .. and an answer.
 abbrev pub butForCounts : Answer → Answer
 butForCounts a = record { refusal = a .refusal; state = countsDropped (a .state) }
 

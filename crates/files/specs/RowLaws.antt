@@ -13,7 +13,8 @@ use Rattle.laws.specs.GroundModel.{OneMoveOrNone}
 use Rattle.laws.specs.Laws.{handleOf}
 use Rattle.reading.specs.declared.Came.{Came}
 use Rattle.reading.specs.declared.Came.the-variants.{Nothing, Answered, Refused}
-use Rattle.files.specs.Told.{Told, Each}
+use Rattle.common.specs.Lists.{Each}
+use Rattle.files.specs.Told.{Told}
 
 -- ---- Labels and lines
 

@@ -54,9 +54,3 @@ textsOf (t ∷ ts) = textOf t ++ textsOf ts
 abbrev pub Linked : ℕ → State → List Told → Type 0
 Linked line s [] = Unit {0}
 Linked line s (t ∷ ts) = (t .line ≡ line) × (t .before ≡ s) × Linked (line + 1) (t .after) ts
-
--- ---- A law of each row
-
-abbrev pub Each : (Told → Type 0) → List Told → Type 0
-Each Law [] = Unit {0}
-Each Law (t ∷ ts) = Law t × Each Law ts

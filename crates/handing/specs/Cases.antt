@@ -1,4 +1,4 @@
--- Request K3, worked: Session S of document 01 up to row 4, saved; the same behind row 5, which gets a 3, and where the battery tore row 5;
+-- Requests K3 and K6, worked: Session S of document 01 up to row 4, saved; the same behind row 5, which gets a 3, and where the battery tore row 5;
 -- and traces that have no row 0. Of each, the line that its image is of.
 -- Assumes nothing.
 use Prim.Native.Nat.{ℕ}
@@ -21,21 +21,20 @@ imageOfS =
     bytesOf
     -- last stamp
     (1350 ∷
-    -- handle: all channels valid, held up; analogical_switch
-    0 ∷ 0 ∷
-    0 ∷ 0 ∷
+    -- per sensor its voter, held value, odd channel and count: handle, held up; analogical_switch
+    0 ∷ 0 ∷ 0 ∷ 0 ∷ 0 ∷ 0 ∷ 0 ∷ 0 ∷
     -- gear_extended, held 1
-    0 ∷ 1 ∷ 0 ∷ 1 ∷ 0 ∷ 1 ∷
+    0 ∷ 1 ∷ 0 ∷ 0 ∷ 0 ∷ 1 ∷ 0 ∷ 0 ∷ 0 ∷ 1 ∷ 0 ∷ 0 ∷
     -- gear_retracted
-    0 ∷ 0 ∷ 0 ∷ 0 ∷ 0 ∷ 0 ∷
+    0 ∷ 0 ∷ 0 ∷ 0 ∷ 0 ∷ 0 ∷ 0 ∷ 0 ∷ 0 ∷ 0 ∷ 0 ∷ 0 ∷
     -- gear_shock_absorber
-    0 ∷ 0 ∷ 0 ∷ 0 ∷ 0 ∷ 0 ∷
+    0 ∷ 0 ∷ 0 ∷ 0 ∷ 0 ∷ 0 ∷ 0 ∷ 0 ∷ 0 ∷ 0 ∷ 0 ∷ 0 ∷
     -- door_closed, held 1
-    0 ∷ 1 ∷ 0 ∷ 1 ∷ 0 ∷ 1 ∷
+    0 ∷ 1 ∷ 0 ∷ 0 ∷ 0 ∷ 1 ∷ 0 ∷ 0 ∷ 0 ∷ 1 ∷ 0 ∷ 0 ∷
     -- door_open
-    0 ∷ 0 ∷ 0 ∷ 0 ∷ 0 ∷ 0 ∷
+    0 ∷ 0 ∷ 0 ∷ 0 ∷ 0 ∷ 0 ∷ 0 ∷ 0 ∷ 0 ∷ 0 ∷ 0 ∷ 0 ∷
     -- circuit_pressurized
-    0 ∷ 0 ∷
+    0 ∷ 0 ∷ 0 ∷ 0 ∷
     -- general_EV on since row 2, open_EV on since row 4; the others off
     1 ∷ 200 ∷
     0 ∷ 60000 ∷

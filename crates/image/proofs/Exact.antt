@@ -1,5 +1,5 @@
--- Request K3: an image is taken exactly if its conditions hold, 10 is given exactly if an item is not in range or the length is not
--- an image's, and 11 exactly if all are in range and a rule is broken. What is loaded is what the image is of; what is refused changes nothing.
+-- Requests K3 and K6: an image of either form is taken exactly if its conditions hold, 10 is given exactly if an item is not in range or the
+-- length is that of neither form, and 11 exactly if all are in range and a rule is broken. What is loaded is what the image is of; what is refused changes nothing.
 -- Assumes nothing.
 use Prim.Native.Nat.{ℕ}
 use native.Mathlib.Omega.{arith}
@@ -7,18 +7,21 @@ use mathlib.Core.Bool.{Bool, true, false, cond, not}
 use mathlib.Core.List.{List, [], _∷_}
 use mathlib.Core.Logic.{_↔_, _⊎_}
 use mathlib.Core.Logic._⊎_.{inl, inr}
-use mathlib.Core.Path.{_≡_, refl}
+use mathlib.Core.Path.{_≡_, refl, subst, subst⁻¹}
 use lib.Dec.{T, eqb, eqb→eq, T-not, not-T}
 use lib.ListN.{length}
 use borrow.Author.Tests.{ne-eqb}
 use Rattle.common.specs.Lowest.{lowest}
+use Rattle.forms.specs.Forms.{oldSize, HasForm, inNewForm}
+use Rattle.forms.proofs.ThereAndBack.{new-form-length, has-form}
 use Rattle.controller.specs.declared.State.{State}
 use Rattle.image.specs.Xdr.{itemsIn}
-use Rattle.image.specs.Items.{tops, within}
+use Rattle.image.specs.Items.{itemCount, tops, within}
 use Rattle.image.specs.Rules.{rulesHold}
-use Rattle.image.specs.Images.{size, fits, loadedAt, refusalOf, loadOf}
+use Rattle.image.specs.Images.{size, newItems, fits, loadedAt, refusalOf, loadOf}
 use Rattle.image.specs.Conditions.{KeepsRules, InRange, Taken}
 use Rattle.image.proofs.Fours.{items-length}
+use Rattle.image.proofs.EitherForm.{own-items}
 use Rattle.image.proofs.Ranged.{within-up-to, up-to-within}
 use Rattle.image.proofs.Strung.{tops-length}
 use Rattle.image.proofs.Keeping.{tests-keep, keeps-tests}
@@ -73,15 +76,32 @@ module _ (image : List ℕ) where
   pub fits-in-range : T (fits image) → InRange image
   unfolding fits
   fits-in-range h =
-      let parts = both (eqb (length image) size) (within tops (itemsIn image)) h in
-      record { long = eqb→eq (length image) size (parts .0); ranges = within-up-to tops (itemsIn image) (parts .1) }
+      let parts = both (eqb (length (inNewForm image)) size) (within tops (newItems image)) h in
+      record { long = has-form image (eqb→eq (length (inNewForm image)) size (parts .0)); ranges = within-up-to tops (newItems image) (parts .1) }
 
-  pub in-range-within : InRange image → T (within tops (itemsIn image))
-  in-range-within h = up-to-within tops (itemsIn image) (omega (arith, items-length image, tops-length, h .long)) (h .ranges)
+  -- In the new form it has so many items.
+  pub as-many : InRange image → length (newItems image) ≡ itemCount
+  unfolding newItems
+  as-many h = omega (arith, items-length (inNewForm image), new-form-length image (h .long))
+
+  pub in-range-within : InRange image → T (within tops (newItems image))
+  in-range-within h = up-to-within tops (newItems image) (omega (arith, as-many h, tops-length)) (h .ranges)
 
   in-range-fits : InRange image → T (fits image)
   unfolding fits
-  in-range-fits h = rw (h .long) (in-range-within h)
+  in-range-fits h = rw (new-form-length image (h .long)) (in-range-within h)
+
+  -- What fits and is no old image is a new one.
+  module _ (other : length image ≡ oldSize → ⊥) (h : fits image ≡ true) where
+    pub fitting-is-new : length image ≡ size
+    fitting-is-new = by (fits-in-range (subst⁻¹ T h tt) .long)
+      where
+        by : HasForm image → length image ≡ size
+        by (inl old) = absurd (other old)
+        by (inr new) = new
+
+    pub fitting-is-ranged : T (within tops (itemsIn image))
+    fitting-is-ranged = subst (λ (items : List ℕ). T (within tops items)) (own-items image other) (in-range-within (fits-in-range (subst⁻¹ T h tt)))
 
   -- ---- The refusal
 

@@ -4,19 +4,23 @@ use Prim.Native.Nat.{ℕ, zero, suc, _<_, _≤_}
 use native.Mathlib.Omega.{arith}
 use mathlib.Core.Bool.{Bool, true, false, cond, not}
 use mathlib.Core.List.{List, [], _∷_}
-use mathlib.Core.Path.{_≡_, refl}
+use mathlib.Core.Logic._⊎_.{inr}
+use mathlib.Core.Path.{_≡_, refl, sym, ap, subst⁻¹, _∙_}
 use borrow.Author.Tests.{eq-eqb, ne-eqb, leb-true, leb-false}
-use lib.Dec.{eqb, leb}
+use lib.Dec.{T, eqb, leb}
 use lib.ListN.{length}
 use Rattle.common.specs.Lowest.{lowest}
+use Rattle.forms.specs.Forms.{oldSize, inNewForm}
+use Rattle.forms.proofs.ThereAndBack.{other-is-not-widened, new-form-length}
 use Rattle.controller.specs.declared.State.{State}
 use Rattle.image.specs.declared.Fault.the-variants.{Nothing, Length, Item, Rule}
 use Rattle.image.specs.Xdr.{itemsIn}
-use Rattle.image.specs.Items.{itemCount, itemAt, tops, within}
-use Rattle.image.specs.Rules.{rules, rulesHold}
-use Rattle.image.specs.Images.{size, fits, loadedAt, refusalOf, loadOf}
+use Rattle.image.specs.Items.{itemCount, itemAt, tops, within, stateIn}
+use Rattle.image.specs.Rules.{ruleCount, rules, rulesHold}
+use Rattle.image.specs.Images.{size, newItems, fits, loadedAt, refusalOf, loadOf}
 use Rattle.image.specs.Faults.{firstOut, firstBroken, faultOf, faultSays}
 use Rattle.image.proofs.Fours.{items-length}
+use Rattle.image.proofs.EitherForm.{own-items}
 use Rattle.image.proofs.Searching.{none-out, none-broken}
 use Rattle.image.proofs.Strung.{tops-length}
 
@@ -33,7 +37,7 @@ by-tests false ranged keeps j k = refl
 pub fault-says : (image : List ℕ) (before : State) (stamp : ℕ) → faultSays (faultOf image) ≡ loadOf before image stamp .refusal
 unfolding fits refusalOf loadOf faultOf
 fault-says image before stamp =
-    by-tests (eqb (length image) size) (within tops (itemsIn image)) (rulesHold (loadedAt 0 image)) (firstBroken (rules (loadedAt 0 image))) (firstOut tops (itemsIn image))
+    by-tests (eqb (length (inNewForm image)) size) (within tops (newItems image)) (rulesHold (loadedAt 0 image)) (firstBroken (rules (loadedAt 0 image))) (firstOut tops (newItems image))
 
 -- ---- The first item out of its range is out of it, and those before it are not
 
@@ -64,32 +68,60 @@ before-are-within (top ∷ tops) (item ∷ items) k h = by-test (leb item top) r
 -- ---- By its cases
 
 -- Every rule is kept exactly where none is found broken.
-pub rules-kept : (s : State) → rulesHold s ≡ eqb (firstBroken (rules s)) 7
+pub rules-kept : (s : State) → rulesHold s ≡ eqb (firstBroken (rules s)) ruleCount
 unfolding rules rulesHold
 rules-kept s = none-broken (rules s)
 
+-- Of an image of the new form, by its own items.
 module _ (image : List ℕ) (long : length image ≡ size) where
+  not-old : length image ≡ oldSize → ⊥
+  not-old old = omega (arith, long, old)
+
+  pub new-form : length (inNewForm image) ≡ size
+  new-form = new-form-length image (inr long)
+
   -- Every item is in its range exactly where none is found out of it.
-  pub all-ranged : within tops (itemsIn image) ≡ eqb (firstOut tops (itemsIn image)) itemCount
-  all-ranged = rw tops-length at (none-out tops (itemsIn image) (omega (arith, items-length image, tops-length)))
+  pub all-ranged : within tops (newItems image) ≡ eqb (firstOut tops (itemsIn image)) itemCount
+  all-ranged =
+      ap (within tops) (own-items image not-old)
+      ∙ rw tops-length at (none-out tops (itemsIn image) (omega (arith, items-length image, tops-length)))
 
   pub fits-ranged : fits image ≡ eqb (firstOut tops (itemsIn image)) itemCount
   unfolding fits
-  fits-ranged = rw (eq-eqb _ _ long) all-ranged
+  fits-ranged = rw (eq-eqb _ _ new-form) all-ranged
+
+  -- The controller that it is of.
+  pub own-controller : (stamp : ℕ) → loadedAt stamp image ≡ stateIn stamp (itemsIn image)
+  unfolding loadedAt
+  own-controller stamp = ap (stateIn stamp) (own-items image not-old)
 
   pub fault-item : (firstOut tops (itemsIn image) ≡ itemCount → ⊥) → faultOf image ≡ Item (firstOut tops (itemsIn image))
   unfolding faultOf
-  fault-item out = rw (eq-eqb _ _ long, all-ranged, ne-eqb _ _ out)
+  fault-item out = rw (eq-eqb _ _ new-form, all-ranged, ne-eqb _ _ out, own-items image not-old)
 
   module _ (ranged : firstOut tops (itemsIn image) ≡ itemCount) where
-    pub fault-rule : (firstBroken (rules (loadedAt 0 image)) ≡ 7 → ⊥) → faultOf image ≡ Rule (firstBroken (rules (loadedAt 0 image)))
-    unfolding faultOf
-    fault-rule broken = rw (eq-eqb _ _ long, all-ranged, eq-eqb _ _ ranged, rules-kept (loadedAt 0 image), ne-eqb _ _ broken)
+    pub items-ranged : T (within tops (itemsIn image))
+    items-ranged = subst⁻¹ T (sym (ap (within tops) (own-items image not-old)) ∙ all-ranged ∙ eq-eqb _ _ ranged) tt
 
-    pub fault-nothing : firstBroken (rules (loadedAt 0 image)) ≡ 7 → faultOf image ≡ Nothing
+    pub fault-rule : (firstBroken (rules (stateIn 0 (itemsIn image))) ≡ ruleCount → ⊥) → faultOf image ≡ Rule (firstBroken (rules (stateIn 0 (itemsIn image))))
     unfolding faultOf
-    fault-nothing kept = rw (eq-eqb _ _ long, all-ranged, eq-eqb _ _ ranged, rules-kept (loadedAt 0 image), eq-eqb _ _ kept)
+    fault-rule broken =
+        rw (eq-eqb _ _ new-form, all-ranged, eq-eqb _ _ ranged, own-controller 0, rules-kept (stateIn 0 (itemsIn image)), ne-eqb _ _ broken)
 
-pub fault-length : (image : List ℕ) → (length image ≡ size → ⊥) → faultOf image ≡ Length
-unfolding faultOf
-fault-length image other = rw (ne-eqb _ _ other)
+    pub fault-nothing : firstBroken (rules (stateIn 0 (itemsIn image))) ≡ ruleCount → faultOf image ≡ Nothing
+    unfolding faultOf
+    fault-nothing kept =
+        rw (eq-eqb _ _ new-form, all-ranged, eq-eqb _ _ ranged, own-controller 0, rules-kept (stateIn 0 (itemsIn image)), eq-eqb _ _ kept)
+
+-- Of what has the length of neither form.
+module _ (image : List ℕ) (old : length image ≡ oldSize → ⊥) (new : length image ≡ size → ⊥) where
+  no-form : length (inNewForm image) ≡ size → ⊥
+  no-form e = new (sym (ap length (other-is-not-widened image old)) ∙ e)
+
+  pub fits-not : fits image ≡ false
+  unfolding fits
+  fits-not = rw (ne-eqb _ _ no-form)
+
+  pub fault-length : faultOf image ≡ Length
+  unfolding faultOf
+  fault-length = rw (ne-eqb _ _ no-form)

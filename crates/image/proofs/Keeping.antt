@@ -1,4 +1,4 @@
--- The tests over a controller say what the rules of request K3 say, both ways; and no rule speaks of the stamp.
+-- The tests over a controller say what the rules of requests K3 and K6 say, both ways; and no rule speaks of the stamp.
 -- Assumes nothing.
 use Prim.Native.Nat.{ℕ}
 use mathlib.Core.Bool.{Bool, true, false, not, _&&_}
@@ -7,6 +7,13 @@ use mathlib.Core.Path.{_≡_, refl}
 use lib.Dec.{T, eqb, eqb→eq, T-not, not-T}
 use borrow.Author.Tests.{eq-eqb}
 use mir.Facts.{and-yes, yes-and}
+use Rattle.common.specs.Lists.{all, Each}
+use Rattle.common.specs.Tests.{implies, every}
+use Rattle.common.proofs.Tests.{then, so}
+use Rattle.common.proofs.Each.{each-so, each-of-both, all-each, each-all}
+use Rattle.voter.specs.declared.Voter.{Voter}
+use Rattle.voter.specs.Counts.{oddWithCount, noOddOfTwo, noneOfInvalid, KeepsCountRules}
+use Rattle.voter.proofs.Kept.{tests-keep-counts, keeps-odd-with-count, keeps-no-odd-of-two, keeps-none-of-invalid}
 use Rattle.sequence.specs.declared.Doors.{Doors}
 use Rattle.sequence.specs.declared.Doors.the-variants.{Closed, Opening, Open, Closing}
 use Rattle.orders.specs.declared.Wanted.{Wanted}
@@ -16,7 +23,7 @@ use Rattle.controller.specs.declared.State.{State}
 use Rattle.controller.specs.Start.{startedAt}
 use Rattle.controller.specs.Stages.{anomaly}
 use Rattle.controller.specs.Shows.{generalEV, closeEV, openEV, retractEV, extendEV, doorsOf, red, invalidSensor}
-use Rattle.image.specs.Rules.{implies, rules, every, rulesHold}
+use Rattle.image.specs.Rules.{rules, rulesHold}
 use Rattle.image.specs.Conditions.{OpenDoorsHaveGeneral, KeepsRules}
 
 -- ---- Tests
@@ -34,14 +41,6 @@ hold-all : (tests : List Bool) → AllHold tests → T (every tests)
 unfolding AllHold
 hold-all [] h = tt
 hold-all (test ∷ tests) h = yes-and test (every tests) (h .0) (hold-all tests (h .1))
-
-then : (this that : Bool) → T (implies this that) → T this → T that
-then true that h this = h
-then false that h this = absurd this
-
-so-implies : (this that : Bool) → (T this → T that) → T (implies this that)
-so-implies true that h = h tt
-so-implies false that h = tt
 
 -- ---- Doors, and a cause
 
@@ -94,9 +93,26 @@ on-general : (on wanted general : Bool) → T (implies on (wanted && general)) �
 on-general on wanted general h o = and-yes wanted general (then on (wanted && general) h o) .1
 
 on-both : (on wanted general : Bool) → (T on → T wanted) → (T on → T general) → T (implies on (wanted && general))
-on-both on wanted general w g = so-implies on (wanted && general) (λ o. yes-and wanted general (w o) (g o))
+on-both on wanted general w g = so on (wanted && general) (λ o. yes-and wanted general (w o) (g o))
 
--- ---- The five rules
+-- ---- Odd channels and counts
+
+module _ (vs : List Voter) where
+  all-keep : T (all oddWithCount vs) → T (all noOddOfTwo vs) → T (all noneOfInvalid vs) → Each KeepsCountRules vs
+  all-keep with-all with-two with-none =
+      each-of-both
+      (λ (v : Voter). T (oddWithCount v)) (λ (v : Voter). T (noOddOfTwo v) × T (noneOfInvalid v)) KeepsCountRules
+      (λ v one others. tests-keep-counts v one (others .0) (others .1)) vs
+      (all-each oddWithCount vs with-all)
+      (each-of-both
+      (λ (v : Voter). T (noOddOfTwo v)) (λ (v : Voter). T (noneOfInvalid v)) (λ (v : Voter). T (noOddOfTwo v) × T (noneOfInvalid v))
+      (λ v one other. (one, other)) vs
+      (all-each noOddOfTwo vs with-two) (all-each noneOfInvalid vs with-none))
+
+  all-hold-of : (test : Voter → Bool) → ((v : Voter) → KeepsCountRules v → T (test v)) → Each KeepsCountRules vs → T (all test vs)
+  all-hold-of test says keep = each-all test vs (each-so KeepsCountRules (λ (v : Voter). T (test v)) says vs keep)
+
+-- ---- The rules
 
 module _ (s : State) where
   -- Where every test holds the rules are kept ..
@@ -130,6 +146,9 @@ module _ (s : State) where
             then (out && not (red s)) general (test .1 .1 .1 .1 .1 .0)
             (yes-and out (not (red s)) (are-out (doorsOf s) notClosed) (no-red s none));
         invalidHasCause = λ invalid. has-cause s (then (invalidSensor s) (red s) (test .1 .1 .1 .1 .1 .1 .0) invalid);
+        countsKeep =
+            (let counts = test .1 .1 .1 .1 .1 .1 .1 in
+            all-keep (s .voters) (counts .0) (counts .1 .0) (counts .1 .1 .0));
       }
 
   -- .. and where they are kept every test holds.
@@ -145,9 +164,14 @@ module _ (s : State) where
       let opening = on-both (openEV s) (wanted .opens) general (is .1) (has .1) in
       let retracting = on-both (retractEV s) (wanted .retracts) general (is .2) (has .2) in
       let extending = on-both (extendEV s) (wanted .extends) general (is .3) (has .3) in
-      let outside = so-implies (out && not (red s)) general (out-general s (keeps .openHaveGeneral)) in
-      let invalid = so-implies (invalidSensor s) (red s) (λ i. has-red s (keeps .invalidHasCause i)) in
-      hold-all (rules s) (keeps .movingHaveOpen, (closing, (opening, (retracting, (extending, (outside, (invalid, tt)))))))
+      let outside = so (out && not (red s)) general (out-general s (keeps .openHaveGeneral)) in
+      let invalid = so (invalidSensor s) (red s) (λ i. has-red s (keeps .invalidHasCause i)) in
+      let counts = keeps .countsKeep in
+      let withCount = all-hold-of (s .voters) oddWithCount keeps-odd-with-count counts in
+      let ofTwo = all-hold-of (s .voters) noOddOfTwo keeps-no-odd-of-two counts in
+      let ofInvalid = all-hold-of (s .voters) noneOfInvalid keeps-none-of-invalid counts in
+      hold-all (rules s)
+      (keeps .movingHaveOpen, (closing, (opening, (retracting, (extending, (outside, (invalid, (withCount, (ofTwo, (ofInvalid, tt))))))))))
 
 -- ---- The stamp
 
@@ -161,4 +185,5 @@ started-keeps stamp s keeps =
       onHasGeneral = keeps .onHasGeneral;
       openHaveGeneral = keeps .openHaveGeneral;
       invalidHasCause = keeps .invalidHasCause;
+      countsKeep = keeps .countsKeep;
     }

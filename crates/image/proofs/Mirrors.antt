@@ -1,16 +1,19 @@
--- Items and controllers: each gives the other, but for counts. Of the voter and of doors and gears only the laws that they promise are used.
+-- Items and controllers: from the ranges alone each gives the other. Of the voter and of doors and gears only the laws that they promise are used.
 -- Assumes nothing.
 use Prim.Native.Nat.{ℕ, zero, suc, _+_, _*_, _-_, _^_}
 use native.Mathlib.Omega.{arith}
-use mathlib.Core.List.{List, [], _∷_, _++_, map, append-assoc}
+use mathlib.Core.List.{List, [], _∷_, _++_, append-assoc}
 use mathlib.Core.Path.{_≡_, refl, sym, subst, _∙_, ap}
 use lib.Dec.{T, leb, lit<}
 use lib.ListN.{length, take, drop, take-append-drop, drop-of-length-le}
 use lib.Seq.{take-at, drop-at, drop-cons, drop-drop}
 use mir.Facts.{and-yes}
+use Rattle.common.specs.Lists.{Each}
 use Rattle.voter.specs.declared.Voter.{Voter}
-use Rattle.voter.specs.Items.{itemsPerSensor, sensorItems, sensorTops, sensorIn, countDropped}
-use Rattle.voter.proofs.Mirrors.{one-of-bit, bit-of-one, items-in-range, sensor-mirror, items-mirror as sensor-items-mirror}
+use Rattle.voter.specs.Counts.{CountInRange}
+use Rattle.voter.specs.Items.{itemsPerSensor, sensorItems, sensorTops, sensorIn}
+use Rattle.voter.proofs.Mirrors.{one-of-bit, bit-of-one, as-many-items, sensor-mirror, items-mirror as sensor-items-mirror}
+use Rattle.voter.proofs.Kept.{in-range-counts}
 use Rattle.sequence.proofs.Numbering.{doors-at-number, gears-at-number, number-at-doors, number-at-gears}
 use Rattle.controller.specs.declared.Core.{Core}
 use Rattle.controller.specs.declared.State.{State}
@@ -35,32 +38,32 @@ use Rattle.image.specs.Items.{
   coreIn,
   stateIn,
 }
-use Rattle.image.specs.Counts.{countsDropped}
+use Rattle.image.specs.Conditions.{CountsInRange}
 use Rattle.image.proofs.Ranged.{UpTo, within-length, within-up-to, within-parts}
 use Rattle.image.proofs.Strung.{sensors-items-length}
 
 -- ---- From a controller and back
 
-sensors-back : (voters : List Voter) (rest : List ℕ) → sensorsIn (length voters) (sensorsItems voters ++ rest) ≡ map countDropped voters
+sensors-back : (voters : List Voter) (rest : List ℕ) → Each CountInRange voters → sensorsIn (length voters) (sensorsItems voters ++ rest) ≡ voters
 unfolding sensorsItems sensorsIn
-sensors-back [] rest = refl
-sensors-back (v ∷ voters) rest =
+sensors-back [] rest counted = refl
+sensors-back (v ∷ voters) rest counted =
     let others : List ℕ = sensorsItems voters ++ rest in
-    let long = items-in-range v .long in
-    rw (append-assoc (sensorItems v) (sensorsItems voters) rest, take-at (sensorItems v) others itemsPerSensor long, drop-at (sensorItems v) others itemsPerSensor long, sensor-mirror v, sensors-back voters rest)
+    let long = as-many-items v in
+    rw (append-assoc (sensorItems v) (sensorsItems voters) rest, take-at (sensorItems v) others itemsPerSensor long, drop-at (sensorItems v) others itemsPerSensor long, sensor-mirror v (counted .0), sensors-back voters rest (counted .1))
 
 core-back : (c : Core) → coreIn (coreItems c) ≡ c
 unfolding coreItems ordersItems orderItems restItems
 core-back c = simp (one-of-bit, doors-at-number, gears-at-number)
 
--- The items of a controller are of that controller with its counts at 0, at the new start stamp.
-pub controller-back : (stamp : ℕ) (s : State) → length (s .voters) ≡ sensorCount → stateIn stamp (itemsOf s) ≡ startedAt stamp (countsDropped s)
-unfolding stateIn itemsOf startedAt countsDropped
-controller-back stamp s all =
+-- The items of a controller whose odd channels and counts are in their ranges are of that controller, at the new start stamp.
+pub controller-back : (stamp : ℕ) (s : State) → length (s .voters) ≡ sensorCount → CountsInRange s → stateIn stamp (itemsOf s) ≡ startedAt stamp s
+unfolding stateIn itemsOf startedAt
+controller-back stamp s all counted =
     let core : List ℕ = coreItems (s .core) in
     let long : length (sensorsItems (s .voters)) ≡ sensorWidth = omega (arith, sensors-items-length (s .voters)) in
-    let voters : sensorsIn sensorCount (sensorsItems (s .voters) ++ core) ≡ map countDropped (s .voters) =
-    subst (λ (n : ℕ). sensorsIn n (sensorsItems (s .voters) ++ core) ≡ map countDropped (s .voters)) all (sensors-back (s .voters) core)
+    let voters : sensorsIn sensorCount (sensorsItems (s .voters) ++ core) ≡ s .voters =
+    subst (λ (n : ℕ). sensorsIn n (sensorsItems (s .voters) ++ core) ≡ s .voters) all (sensors-back (s .voters) core counted)
     in
     rw (voters, drop-at (sensorsItems (s .voters)) core sensorWidth long, core-back (s .core))
 
@@ -89,6 +92,17 @@ sensors-mirror (suc sensors) rest items h =
       rw behind (more .1),
     )
 
+-- And their odd channels and counts are in their ranges.
+sensors-counted : (sensors : ℕ) (rest items : List ℕ) → T (within (sensorsTops sensors ++ rest) items) → Each CountInRange (sensorsIn sensors items)
+unfolding sensorsTops sensorsIn
+sensors-counted zero rest items h = tt
+sensors-counted (suc sensors) rest items h =
+    let parts = within-parts sensorTops (sensorsTops sensors ++ rest) items (rw append-assoc at h) in
+    let one : List ℕ = take itemsPerSensor items in (
+      in-range-counts one (record { long = within-length sensorTops one (parts .0); ranges = within-up-to sensorTops one (parts .0) }),
+      sensors-counted sensors rest (drop itemsPerSensor items) (parts .1),
+    )
+
 -- So many items from a place on.
 itemsFrom : ℕ → ℕ → List ℕ → List ℕ
 itemsFrom zero k items = []
@@ -114,6 +128,11 @@ core-mirror items h =
       number-at-gears (itemAt items 12) (upTo 12 (lit< tt)),
     )
     (sym (each-item coreWidth 0 items (within-length coreTops items h)))
+
+pub counts-within : (items : List ℕ) → T (within tops items) → Each CountInRange (sensorsIn sensorCount (drop 1 items))
+unfolding tops within
+counts-within [] h = absurd h
+counts-within (stamp ∷ items) h = sensors-counted sensorCount coreTops items (and-yes (leb stamp (2 ^ 32 - 1)) _ h .1)
 
 -- The items of the core, in their ranges.
 pub core-within : (items : List ℕ) → T (within tops items) → T (within coreTops (drop firstOrder items))

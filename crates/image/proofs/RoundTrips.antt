@@ -1,18 +1,23 @@
--- Request K3: saving then loading gives the same controller but for the stamp and, until request K6, the counts of request K5; where no
--- count runs, but for the stamp alone. Loading then saving gives the same image but for the stamp. What is allowed saves to an image that is
--- taken, and an image that is taken loads as what is allowed.
+-- Requests K3 and K6: saving then loading gives the same controller but for the stamp. Loading then saving gives the same image, in the new
+-- form, but for the stamp. What is allowed saves to an image that is taken, and an image that is taken loads as what is allowed.
 -- Assumes nothing.
 use Prim.Native.Nat.{ℕ, zero, suc, _-_, _%_, _^_, _≤_, _<_}
 use native.Mathlib.Omega.{arith}
 use mathlib.Core.Bool.{Bool, _&&_}
 use mathlib.Core.List.{List, [], _∷_, _++_, map}
+use mathlib.Core.Logic._⊎_.{inr}
 use mathlib.Core.Path.{_≡_, sym, _∙_, ap}
 use lib.Dec.{T, leb, ltb, ltb→lt, le→leb, lit<}
 use lib.ListN.{length, drop}
 use lib.Seq.{drop-cons}
 use mir.Facts.{and-yes, yes-and}
 use Rattle.common.specs.Bits.{bit}
+use Rattle.common.specs.Lists.{Each}
+use Rattle.common.specs.Tests.{every}
+use Rattle.forms.specs.Forms.{inNewForm}
+use Rattle.forms.proofs.ThereAndBack.{new-form-length}
 use Rattle.voter.specs.declared.Voter.{Voter}
+use Rattle.voter.specs.Counts.{CountInRange}
 use Rattle.voter.specs.Items.{sensorItems, sensorTops}
 use Rattle.voter.proofs.Mirrors.{bit-to-1, items-in-range}
 use Rattle.sequence.specs.Numbers.{doorsNumber, gearsNumber, lastNumber as lastPlace}
@@ -43,17 +48,15 @@ use Rattle.image.specs.Items.{
   stateIn,
 }
 use Rattle.orders.specs.Timing.{oldest}
-use Rattle.image.specs.Rules.{every}
-use Rattle.image.specs.Images.{size, imageOf, loadedAt, loadOf}
-use Rattle.image.specs.Counts.{countsDropped, NoCountRuns}
+use Rattle.image.specs.Images.{size, newItems, imageOf, loadedAt, loadOf}
 use Rattle.image.specs.Conditions.{AgesTo60000, CausesTo13, Allowed, AllBelow, AllBytes, Taken}
 use Rattle.image.proofs.Fours.{items-back, each-below, bytes-back, bytes-of-rest, bytes-length, items-length}
 use Rattle.image.proofs.Ranged.{UpTo, within-length, within-up-to, up-to-within, within-joined}
-use Rattle.image.proofs.Mirrors.{controller-back, core-within as core-items-within, items-mirror}
+use Rattle.image.proofs.Mirrors.{controller-back, counts-within, core-within as core-items-within, items-mirror}
 use Rattle.image.proofs.Strung.{items-of-length, sensors-length}
 use Rattle.image.proofs.Keeping.{started-keeps}
-use Rattle.image.proofs.Counts.{no-count-no-loss-of-all, dropped-keeps}
-use Rattle.image.proofs.Exact.{in-range-within, taken-is-loaded}
+use Rattle.image.proofs.Exact.{as-many, in-range-within, taken-is-loaded}
+use Rattle.image.proofs.EitherForm.{own-items, stamp-item, bytes-in-new-form}
 
 -- ---- The items of an allowed controller are in their ranges
 
@@ -61,13 +64,13 @@ use Rattle.image.proofs.Exact.{in-range-within, taken-is-loaded}
 and-next : (item top : ℕ) (rest : Bool) → item ≤ top → T rest → T (leb item top && rest)
 and-next item top rest h more = yes-and (leb item top) rest (le→leb item top h) more
 
-sensors-within : (voters : List Voter) → T (within (sensorsTops (length voters)) (sensorsItems voters))
+sensors-within : (voters : List Voter) → Each CountInRange voters → T (within (sensorsTops (length voters)) (sensorsItems voters))
 unfolding sensorsTops sensorsItems within
-sensors-within [] = tt
-sensors-within (v ∷ voters) =
-    let own = items-in-range v in
+sensors-within [] counted = tt
+sensors-within (v ∷ voters) counted =
+    let own = items-in-range v (counted .0) in
     within-joined sensorTops (sensorsTops (length voters)) (sensorItems v) (sensorsItems voters)
-    (up-to-within sensorTops (sensorItems v) (own .long) (own .ranges)) (sensors-within voters)
+    (up-to-within sensorTops (sensorItems v) (own .long) (own .ranges)) (sensors-within voters (counted .1))
 
 order-within : (o : Order) → o .age ≤ oldest → T (within (1 ∷ oldest ∷ []) (orderItems o))
 unfolding orderItems within
@@ -103,7 +106,7 @@ module _ (s : State) (allowed : Allowed s) where
   after-stamp : T (within (sensorsTops sensorCount ++ coreTops) (sensorsItems (s .voters) ++ coreItems (s .core)))
   after-stamp =
       within-joined (sensorsTops sensorCount) coreTops (sensorsItems (s .voters)) (coreItems (s .core))
-      (rw (allowed .sensors) at (sensors-within (s .voters)))
+      (rw (allowed .sensors) at (sensors-within (s .voters) (allowed .counts)))
       (core-within s (allowed .ages) (allowed .causes))
 
   all-within : (stamp : ℕ) → stamp < 2 ^ 32 → T (within tops (itemsOf (startedAt stamp s)))
@@ -144,11 +147,15 @@ unfolding imageOf
 image-length s all = omega (arith, bytes-length (itemsOf s), items-of-length s all)
 
 module _ (s : State) (allowed : Allowed s) where
-  -- The image of a controller is of that controller with its counts at 0, at the new start stamp.
-  pub image-is-of : (stamp : ℕ) → loadedAt stamp (imageOf s) ≡ startedAt stamp (countsDropped s)
-  unfolding loadedAt startedAt countsDropped
+  -- It is of the new form.
+  new-items : newItems (imageOf s) ≡ itemsOf (startedAt (s .stamp % 2 ^ 32) s)
+  new-items = own-items (imageOf s) (λ old. omega (arith, image-length s (allowed .sensors), old)) ∙ read-back s allowed
+
+  -- The image of a controller is of that controller, at the new start stamp.
+  pub image-is-of : (stamp : ℕ) → loadedAt stamp (imageOf s) ≡ startedAt stamp s
+  unfolding loadedAt startedAt
   image-is-of stamp =
-      ap (stateIn stamp) (read-back s allowed) ∙ controller-back stamp (startedAt (s .stamp % 2 ^ 32) s) (allowed .sensors)
+      ap (stateIn stamp) new-items ∙ controller-back stamp (startedAt (s .stamp % 2 ^ 32) s) (allowed .sensors) (allowed .counts)
 
   -- An allowed controller saves to an image that is taken.
   pub allowed-is-taken : Taken (imageOf s)
@@ -156,45 +163,37 @@ module _ (s : State) (allowed : Allowed s) where
       record {
         inRange =
             record {
-              long = image-length s (allowed .sensors);
+              long = inr (image-length s (allowed .sensors));
               ranges =
-                  within-up-to tops (itemsIn (imageOf s))
-                  (rw (read-back s allowed) (all-within s allowed (s .stamp % 2 ^ 32) (omega arith)));
+                  within-up-to tops (newItems (imageOf s)) (rw new-items (all-within s allowed (s .stamp % 2 ^ 32) (omega arith)));
             };
-        rules = rw (image-is-of 0) (started-keeps 0 (countsDropped s) (dropped-keeps s (allowed .rules)));
+        rules = rw (image-is-of 0) (started-keeps 0 s (allowed .rules));
       }
 
-  -- Saving then loading gives the same controller but for the stamp and the counts, which are 0 ..
-  pub saved-then-loaded-but-for-counts :
-      (before : State) (stamp : ℕ) →
-      loadOf before (imageOf s) stamp ≡ record { refusal = 0; state = startedAt stamp (countsDropped s) }
-  saved-then-loaded-but-for-counts before stamp =
-      taken-is-loaded (imageOf s) allowed-is-taken before stamp ∙
-      ap (λ (loaded : State). let answer : Answer = record { refusal = 0; state = loaded } in answer) (image-is-of stamp)
-
-  -- .. and where no count runs, but for the stamp.
+  -- Saving then loading gives the same controller but for the stamp.
   pub saved-then-loaded :
-      NoCountRuns s →
       (before : State) (stamp : ℕ) →
       loadOf before (imageOf s) stamp ≡ record { refusal = 0; state = startedAt stamp s }
-  saved-then-loaded none before stamp =
-      rw (no-count-no-loss-of-all s none) at (saved-then-loaded-but-for-counts before stamp)
+  saved-then-loaded before stamp =
+      taken-is-loaded (imageOf s) allowed-is-taken before stamp ∙
+      ap (λ (loaded : State). let answer : Answer = record { refusal = 0; state = loaded } in answer) (image-is-of stamp)
 
 -- ---- Loading, then saving
 
 module _ (image : List ℕ) (taken : Taken image) where
-  items-within : T (within tops (itemsIn image))
+  items-within : T (within tops (newItems image))
   items-within = in-range-within image (taken .inRange)
 
-  core-up-to : UpTo coreTops (drop firstOrder (itemsIn image))
-  core-up-to = within-up-to coreTops (drop firstOrder (itemsIn image)) (core-items-within (itemsIn image) items-within)
+  core-up-to : UpTo coreTops (drop firstOrder (newItems image))
+  core-up-to = within-up-to coreTops (drop firstOrder (newItems image)) (core-items-within (newItems image) items-within)
 
   -- An image that is taken loads as an allowed controller.
   pub taken-is-allowed : (stamp : ℕ) → Allowed (loadedAt stamp image)
   unfolding loadedAt stateIn coreTops startedAt
   taken-is-allowed stamp =
       record {
-        sensors = sensors-length sensorCount (drop 1 (itemsIn image));
+        sensors = sensors-length sensorCount (drop 1 (newItems image));
+        counts = counts-within (newItems image) items-within;
         ages = (
           core-up-to 1 (lit< tt),
           core-up-to 3 (lit< tt),
@@ -207,19 +206,24 @@ module _ (image : List ℕ) (taken : Taken image) where
         rules = started-keeps stamp (loadedAt 0 image) (taken .rules);
       }
 
-  -- Loading then saving gives the same bytes but for the stamp's four ..
-  pub loaded-then-saved : AllBytes image → (stamp : ℕ) → imageOf (loadedAt stamp image) ≡ fourBytes stamp ++ drop 4 image
+  -- As bytes of the new form they are what it is in that form.
+  back : AllBytes image → bytesOf (newItems image) ≡ inNewForm image
+  unfolding newItems
+  back bytes = bytes-back (inNewForm image) itemCount (new-form-length image (taken .inRange .long)) (bytes-in-new-form image bytes)
+
+  -- Loading then saving gives the same bytes, in the new form, but for the stamp's four ..
+  pub loaded-then-saved : AllBytes image → (stamp : ℕ) → imageOf (loadedAt stamp image) ≡ fourBytes stamp ++ drop 4 (inNewForm image)
   unfolding imageOf loadedAt bytesOf
   loaded-then-saved bytes stamp =
-      ap bytesOf (items-mirror stamp (itemsIn image) items-within) ∙
-      ap (λ (rest : List ℕ). fourBytes stamp ++ rest)
-      (bytes-of-rest (itemsIn image) ∙ ap (drop 4) (bytes-back image itemCount (taken .inRange .long) bytes))
+      ap bytesOf (items-mirror stamp (newItems image) items-within) ∙
+      ap (λ (rest : List ℕ). fourBytes stamp ++ rest) (bytes-of-rest (newItems image) ∙ ap (drop 4) (back bytes))
 
-  -- .. and the very same image at the image's own stamp.
-  pub loaded-then-saved-at-its-own : AllBytes image → imageOf (loadedAt (itemAt (itemsIn image) 0) image) ≡ image
+  -- .. and the very same image, in the new form, at the image's own stamp.
+  pub loaded-then-saved-at-its-own : AllBytes image → imageOf (loadedAt (itemAt (itemsIn image) 0) image) ≡ inNewForm image
   unfolding imageOf loadedAt
   loaded-then-saved-at-its-own bytes =
       ap bytesOf
-      (items-mirror (itemAt (itemsIn image) 0) (itemsIn image) items-within ∙
-      sym (drop-cons (itemsIn image) 0 0 (omega (arith, items-length image, taken .inRange .long)))) ∙
-      bytes-back image itemCount (taken .inRange .long) bytes
+      (items-mirror (itemAt (itemsIn image) 0) (newItems image) items-within ∙
+      ap (λ (stamp : ℕ). stamp ∷ drop 1 (newItems image)) (sym (stamp-item image (taken .inRange .long))) ∙
+      sym (drop-cons (newItems image) 0 0 (omega (arith, as-many image (taken .inRange))))) ∙
+      back bytes

@@ -9,8 +9,8 @@ use mathlib.Core.Path.{_≡_, refl, sym, _∙_}
 use lib.Dec.{eqb, leb, eqb·zero-suc, eqb·suc-suc}
 use lib.ListN.{length, getD, drop, drop-of-length-le}
 use lib.Seq.{drop-cons}
+use Rattle.common.specs.Tests.{every}
 use Rattle.image.specs.Items.{within, itemAt}
-use Rattle.image.specs.Rules.{every}
 use Rattle.image.specs.Faults.{firstOut, firstBroken, allZero}
 
 -- ---- One after the other

@@ -8,7 +8,7 @@ use lib.ListN.{length, getD, take, drop, length-append, List·getD-append}
 use lib.Seq.{getD-append-add, drop-drop}
 use Rattle.voter.specs.declared.Voter.{Voter}
 use Rattle.voter.specs.Items.{itemsPerSensor, sensorItems, sensorTops, sensorIn}
-use Rattle.voter.proofs.Mirrors.{items-in-range}
+use Rattle.voter.proofs.Mirrors.{as-many-items}
 use Rattle.controller.specs.declared.State.{State}
 use Rattle.image.specs.Items.{
   sensorCount,
@@ -34,7 +34,7 @@ pub sensors-items-length : (voters : List Voter) → length (sensorsItems voters
 unfolding sensorsItems
 sensors-items-length [] = refl
 sensors-items-length (v ∷ voters) =
-    omega (arith, length-append (sensorItems v) (sensorsItems voters), items-in-range v .long, sensors-items-length voters)
+    omega (arith, length-append (sensorItems v) (sensorsItems voters), as-many-items v, sensors-items-length voters)
 
 pub items-of-length : (s : State) → length (s .voters) ≡ sensorCount → length (itemsOf s) ≡ itemCount
 unfolding itemsOf coreItems ordersItems orderItems restItems
@@ -72,9 +72,9 @@ strung-item : (voters : List Voter) (d : Voter) (i j : ℕ) → i < length voter
     → getD (sensorsItems voters) (itemsPerSensor * i + j) 0 ≡ getD (sensorItems (getD voters i d)) j 0
 unfolding sensorsItems
 strung-item [] d i j h less = absurd (omega arith)
-strung-item (v ∷ voters) d zero j h less = of-the-first (sensorItems v) (sensorsItems voters) (items-in-range v .long) j less
+strung-item (v ∷ voters) d zero j h less = of-the-first (sensorItems v) (sensorsItems voters) (as-many-items v) j less
 strung-item (v ∷ voters) d (suc i) j h less =
-    of-the-others (sensorItems v) (sensorsItems voters) (items-in-range v .long) j i ∙ strung-item voters d i j (omega arith) less
+    of-the-others (sensorItems v) (sensorsItems voters) (as-many-items v) j i ∙ strung-item voters d i j (omega arith) less
 
 strung-top : (sensors i j : ℕ) → i < sensors → j < itemsPerSensor
     → getD (sensorsTops sensors) (itemsPerSensor * i + j) 0 ≡ getD sensorTops j 0

@@ -4,7 +4,11 @@ use mathlib.Core.Bool.{true}
 use mathlib.Core.Path.{_≡_, refl}
 use lib.ListN.{replicate}
 use Rattle.common.specs.Case.{AllAsWanted}
+use Rattle.common.specs.Lists.{all}
+use Rattle.forms.specs.Forms.{sensorsWidened, widened, inNewForm}
+use Rattle.voter.specs.Voting.{validChannels}
 use Rattle.voter.specs.Numbers.{numberOf, channelsAt}
+use Rattle.voter.specs.Counts.{oddWithCount, noOddOfTwo, noneOfInvalid}
 use Rattle.voter.specs.Items.{sensorItems, sensorIn}
 use Rattle.sequence.specs.Numbers.{doorsAt, gearsAt}
 use Rattle.controller.proofs.Computing.{rules as stepRules}
@@ -25,10 +29,10 @@ use Rattle.image.specs.Items.{
   stateIn,
 }
 use Rattle.image.specs.Rules.{rules, rulesHold}
-use Rattle.image.specs.Images.{size, imageOf, fits, loadedAt, refusalOf}
+use Rattle.image.specs.Images.{size, newItems, imageOf, fits, loadedAt, refusalOf}
 use Rattle.image.specs.declared.Fault.the-variants.{Item, Rule}
 use Rattle.image.specs.Faults.{firstOut, firstBroken, faultOf, allZero, isBlank}
-use Rattle.image.specs.Cases.{extendAge, doors, with, fresh, opening, extending, imageCases}
+use Rattle.image.specs.Cases.{extendAge, doors, with, fresh, oldFresh, opening, extending, imageCases}
 
 pub as-worked : AllAsWanted imageCases
 unfolding
@@ -38,8 +42,10 @@ unfolding
     sensorsItems orderItems ordersItems restItems coreItems itemsOf
     sensorsTops coreTops tops within sensorsIn stateIn
     rules rulesHold movingHaveOpen
+    all validChannels oddWithCount noOddOfTwo noneOfInvalid
+    sensorsWidened widened inNewForm newItems
     imageOf fits loadedAt refusalOf
-    fresh opening extending imageCases
+    fresh oldFresh opening extending imageCases
 as-worked = refl
 
 -- What is wrong with an image is named: here an age, and a rule.
@@ -47,7 +53,7 @@ pub age-named : faultOf (bytesOf (with extendAge 60001 fresh)) ≡ Item extendAg
 unfolding
     fourBytes itemFrom bytesOf itemsIn
     sensorsTops coreTops tops within
-    firstOut faultOf fresh
+    inNewForm newItems firstOut faultOf fresh
 age-named = refl
 
 pub rule-named : faultOf (bytesOf (with doors 1 fresh)) ≡ Rule 5
@@ -57,10 +63,11 @@ unfolding
     fourBytes itemFrom bytesOf itemsIn
     sensorsTops coreTops tops within sensorsIn stateIn
     rules rulesHold movingHaveOpen loadedAt
-    firstBroken faultOf fresh
+    all validChannels oddWithCount noOddOfTwo noneOfInvalid
+    inNewForm newItems firstBroken faultOf fresh
 rule-named = refl
 
--- 204 zero bytes are an image by K3, and are told.
+-- Zero bytes of the length of either form are an image, and are told.
 pub zeros-are-blank : isBlank (replicate size 0) ≡ true
 unfolding itemFrom itemsIn allZero isBlank
 zeros-are-blank = refl

@@ -1,12 +1,15 @@
 -- Request K3: "An image is taken exactly if every item is in range (ages to 60,000), moving gears have doors OPEN, any of the four
 -- orders that is on is wanted and has general_EV on, doors not CLOSED without a cause has general_EV on, and an invalid sensor has a
--- cause." Condition by condition, each over one state.
+-- cause." And request K6: "New rules beside K3's", for odd channel and count. Condition by condition, each over one state.
 -- Assumes nothing.
 use mathlib.Core.List.{List}
 use mathlib.Core.Path.{_≡_}
 use Prim.Native.Nat.{ℕ, _≤_, _<_}
 use lib.Dec.{T}
 use lib.ListN.{length}
+use Rattle.common.specs.Lists.{Each}
+use Rattle.voter.specs.Counts.{CountInRange, KeepsCountRules}
+use Rattle.forms.specs.Forms.{HasForm}
 use Rattle.sequence.specs.declared.Doors.the-variants.{Closed}
 use Rattle.sequence.specs.Places.{movingHaveOpen}
 use Rattle.orders.specs.Timing.{oldest, wantedOf}
@@ -21,9 +24,8 @@ use Rattle.controller.specs.Shows.{
   red,
   invalidSensor,
 }
-use Rattle.image.specs.Xdr.{itemsIn}
 use Rattle.image.specs.Items.{sensorCount, lastCause, tops, itemAt}
-use Rattle.image.specs.Images.{size, loadedAt}
+use Rattle.image.specs.Images.{newItems, loadedAt}
 
 -- ---- Of the controller
 
@@ -55,13 +57,22 @@ OpenDoorsHaveGeneral s = ¬ (doorsOf s ≡ Closed) → s .core .cause ≡ 0 → 
 abbrev pub InvalidSensorHasCause : State → Type 0
 InvalidSensorHasCause s = T (invalidSensor s) → ¬ (s .core .cause ≡ 0)
 
--- The five rules.
+-- At every sensor, odd channel and count keep to each other and to the channels that are valid.
+abbrev pub CountsKeepRules : State → Type 0
+CountsKeepRules s = Each KeepsCountRules (s .voters)
+
+-- The five rules of request K3, and those of request K6.
 pub record KeepsRules (s : State) : Type 0 where
   pub movingHaveOpen : MovingGearsHaveDoorsOpen s
   pub onIsWanted : OnIsWanted s
   pub onHasGeneral : OnHasGeneral s
   pub openHaveGeneral : OpenDoorsHaveGeneral s
   pub invalidHasCause : InvalidSensorHasCause s
+  pub countsKeep : CountsKeepRules s
+
+-- Odd channels to 3 and counts to 2.
+abbrev pub CountsInRange : State → Type 0
+CountsInRange s = Each CountInRange (s .voters)
 
 -- Ages to 60,000: the five orders' and the handle's.
 abbrev pub AgesTo60000 : State → Type 0
@@ -77,9 +88,10 @@ AgesTo60000 s =
 abbrev pub CausesTo13 : State → Type 0
 CausesTo13 s = s .core .cause ≤ lastCause
 
--- A controller whose image is taken: the eighteen sensors, ages and cause in range, and the rules.
+-- A controller whose image is taken: the eighteen sensors, odd channels, counts, ages and cause in range, and the rules.
 pub record Allowed (s : State) : Type 0 where
   pub sensors : length (s .voters) ≡ sensorCount
+  pub counts : CountsInRange s
   pub ages : AgesTo60000 s
   pub causes : CausesTo13 s
   pub rules : KeepsRules s
@@ -94,12 +106,12 @@ AllBelow top numbers = (k : ℕ) → k < length numbers → itemAt numbers k < t
 abbrev pub AllBytes : List ℕ → Type 0
 AllBytes = AllBelow 256
 
--- As long as an image is, and every item is in range.
+-- As long as an image of either form is, and every item is in range.
 pub record InRange (image : List ℕ) : Type 0 where
-  pub long : length image ≡ size
-  pub ranges : (k : ℕ) → k < length tops → itemAt (itemsIn image) k ≤ itemAt tops k
+  pub long : HasForm image
+  pub ranges : (k : ℕ) → k < length tops → itemAt (newItems image) k ≤ itemAt tops k
 
--- An image that is taken.
+-- An image that is taken, of either form.
 pub record Taken (image : List ℕ) : Type 0 where
   pub inRange : InRange image
   pub rules : KeepsRules (loadedAt 0 image)

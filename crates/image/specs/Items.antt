@@ -1,5 +1,5 @@
--- Request K3: the controller as items, and the controller that items are of. Each is the mirror of the other. What a sensor is as
--- items is the voter's (`Rattle.voter.specs.Items`); here they are strung over the eighteen sensors.
+-- Requests K3 and K6: the controller as items of the new form, and the controller that items are of. Each is the mirror of the other. What a
+-- sensor is as items is the voter's (`Rattle.voter.specs.Items`); here they are strung over the eighteen sensors.
 -- Assumes nothing.
 use Prim.Native.Nat.{ℕ, zero, suc, _+_, _*_, _-_, _^_}
 use mathlib.Core.Bool.{Bool, true, false, _&&_}
@@ -35,7 +35,7 @@ firstOrder = 1 + sensorWidth
 abbrev pub coreWidth : ℕ
 coreWidth = 5 * 2 + 4
 
--- Items in all: 51.
+-- Items in all: 87.
 abbrev pub itemCount : ℕ
 itemCount = firstOrder + coreWidth
 

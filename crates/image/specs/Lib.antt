@@ -2,7 +2,6 @@ pub mod Xdr
 pub mod Items
 pub mod Rules
 pub mod Images
-pub mod Counts
 pub mod Faults
 pub mod Conditions
 pub mod Cases

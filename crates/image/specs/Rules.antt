@@ -1,15 +1,19 @@
--- Request K3: what an image must keep to beside its ranges, as tests over the controller that it is of.
+-- Requests K3 and K6: what an image must keep to beside its ranges, as tests over the controller that it is of.
 -- Assumes nothing.
-use mathlib.Core.Bool.{Bool, true, not, _&&_, _||_}
+use Prim.Native.Nat.{ℕ}
+use mathlib.Core.Bool.{Bool, not, _&&_}
 use mathlib.Core.List.{List, [], _∷_}
+use Rattle.common.specs.Lists.{all}
+use Rattle.common.specs.Tests.{implies, every}
+use Rattle.voter.specs.Counts.{oddWithCount, noOddOfTwo, noneOfInvalid}
 use Rattle.orders.specs.Timing.{wantedOf}
 use Rattle.sequence.specs.Places.{areClosed, movingHaveOpen}
 use Rattle.controller.specs.declared.State.{State}
 use Rattle.controller.specs.Shows.{generalEV, closeEV, openEV, retractEV, extendEV, doorsOf, red, invalidSensor}
 
--- The second is so where the first is.
-abbrev pub implies : Bool → Bool → Bool
-implies this that = not this || that
+-- There are so many.
+abbrev pub ruleCount : ℕ
+ruleCount = 10
 
 unfoldable pub rules : State → List Bool
 rules s =
@@ -24,12 +28,13 @@ rules s =
     implies (not (areClosed (doorsOf s)) && not (red s)) (generalEV s) ∷
     -- an invalid sensor has a cause
     implies (invalidSensor s) (red s) ∷
+    -- at every sensor: with all channels valid the odd channel is 0 exactly if the count is 0
+    all oddWithCount (s .voters) ∷
+    -- with one struck it is 0
+    all noOddOfTwo (s .voters) ∷
+    -- with the sensor invalid both are 0
+    all noneOfInvalid (s .voters) ∷
     []
-
--- Every test holds.
-abbrev pub every : List Bool → Bool
-every [] = true
-every (test ∷ tests) = test && every tests
 
 unfoldable pub rulesHold : State → Bool
 rulesHold s = every (rules s)

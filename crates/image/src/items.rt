@@ -12,11 +12,14 @@ ghost use Rattle.image.specs.Items.{
   stateOf,
   coreItems,
   itemsOf,
+  tops,
+  within,
   itemAt,
   sensorsIn,
   coreIn,
+  stateIn,
 };
-ghost use Rattle.image.specs.Images.{size, fits, imageOf, loadedAt};
+ghost use Rattle.image.specs.Images.{size, imageOf};
 use crate::CORE;
 use crate::FIRST_ORDER;
 use crate::ITEMS;
@@ -45,10 +48,10 @@ pub(crate) fn put_state(out: &mut [u8], stamp: u32, voters: [Voter; SENSORS], co
     next
 }
 
-// The controller that an image is of, at a new start stamp.
+// The controller that an image of the new form is of, at a new start stamp.
 pub(crate) fn state_in(image: &[u8], stamp: u32) -> State
-    requires { ⌜ T (fits (now image)) ⌝ }
-    ensures { λ r. ⌜ r ≡ loadedAt stamp (now (image .entry)) ⌝ }
+    requires { ⌜ (length (now image) ≡ size) × T (within tops (itemsIn (now image))) ⌝ }
+    ensures { λ r. ⌜ r ≡ stateIn stamp (itemsIn (now (image .entry))) ⌝ }
 {
     let voters = sensors_in(image);
     let mut items = [0u32; CORE];

@@ -1,8 +1,11 @@
-// The image of a controller (request K3): items of RFC 4506, four bytes each, by which a lesson goes on at another laptop.
+// The image of a controller (requests K3 and K6): items of RFC 4506, four bytes each, by which a lesson goes on at another laptop. Saving
+// writes the new form; of the old form, which has no odd channels and counts, an image is widened before it is looked at (`forms`).
 // The rule is specs/: Xdr.antt (an item), Items.antt (the items of a controller, their ranges, and the controller that items are of),
 // Rules.antt (what an image must keep to), Images.antt (saving, loading and the refusals), Faults.antt (what is wrong with an image that
 // is refused). specs/Conditions.antt says condition by condition which images are taken, and proofs/Exact.antt that it is so exactly.
 ghost use mathlib.Core.Path.{_≡_};
+ghost use lib.ListN.{length};
+ghost use Rattle.forms.specs.Forms.{oldSize};
 ghost use Rattle.image.specs.Xdr.{itemsIn};
 ghost use Rattle.image.specs.Items.{itemAt};
 ghost use Rattle.image.specs.Images.{saveOf, loadOf};
@@ -16,7 +19,7 @@ mod xdr;
 use controller::Answer;
 use controller::State;
 
-// An image has so many bytes: 204.
+// An image of the new form has so many bytes: 348.
 pub const SIZE: usize = xdr::ITEM * ITEMS;
 
 // So many items (`itemCount` of specs/Items.antt).
@@ -35,9 +38,9 @@ const CORE: usize = 14;
 pub enum Fault {
     // Nothing: it is taken.
     Nothing,
-    // It has not the length of an image.
+    // It has the length of neither form.
     Length,
-    // The first item that is out of its range, counted from 0.
+    // The first item that is out of its range, by its place in the new form, counted from 0.
     Item(usize),
     // The first rule that is broken, counted from 0 in the order of specs/Rules.antt.
     Rule(usize),
@@ -56,43 +59,28 @@ pub fn save(state: State, out: &mut [u8]) -> u8
     0
 }
 
-// Loads an image at a new start stamp: 0 and the controller that it is of, or 10 or 11 and the controller as it was.
+// Loads an image of either form at a new start stamp: 0 and the controller that it is of, or 10 or 11 and the controller as it was.
 pub fn load(before: State, image: &[u8], stamp: u32) -> Answer
     ensures { λ r. ⌜ r ≡ loadOf before (now (image .entry)) stamp ⌝ }
 {
-    if ranges::fits(image) {
-        let state = items::state_in(image, stamp);
-        if rules::hold(state) {
-            return Answer { refusal: 0, state };
-        }
-        return Answer {
-            refusal: 11,
-            state: before,
-        };
+    if image.len() != forms::OLD {
+        return load_new(before, image, stamp);
     }
-    Answer {
-        refusal: 10,
-        state: before,
-    }
+    let mut new = [0u8; SIZE];
+    forms::put_new(&mut new, image);
+    load_new(before, &new, stamp)
 }
 
 // What is wrong with an image: where `load` answers 0 it is nothing, where it answers 10 the length or an item, and at 11 a rule.
 pub fn find_fault(image: &[u8]) -> Fault
     ensures { λ r. ⌜ r ≡ faultOf (now (image .entry)) ⌝ }
 {
-    if image.len() != SIZE {
-        return Fault::Length;
+    if image.len() != forms::OLD {
+        return find_fault_new(image);
     }
-    let k = ranges::first_out(image);
-    if k != ITEMS {
-        return Fault::Item(k);
-    }
-    let state = items::state_in(image, 0);
-    let rule = rules::first_broken(state);
-    if rule != rules::RULES {
-        return Fault::Rule(rule);
-    }
-    Fault::Nothing
+    let mut new = [0u8; SIZE];
+    forms::put_new(&mut new, image);
+    find_fault_new(&new)
 }
 
 // Whether every item is 0: what a write leaves that was lost.
@@ -117,4 +105,45 @@ pub fn last_stamp(image: &[u8]) -> u32
         return 0;
     }
     xdr::item(image, 0)
+}
+
+// Loads what is no image of the old form.
+fn load_new(before: State, image: &[u8], stamp: u32) -> Answer
+    requires { ⌜ (length (now image) ≡ oldSize → ⊥) ⌝ }
+    ensures { λ r. ⌜ r ≡ loadOf before (now (image .entry)) stamp ⌝ }
+{
+    if ranges::fits(image) {
+        let state = items::state_in(image, stamp);
+        if rules::hold(state) {
+            return Answer { refusal: 0, state };
+        }
+        return Answer {
+            refusal: 11,
+            state: before,
+        };
+    }
+    Answer {
+        refusal: 10,
+        state: before,
+    }
+}
+
+// What is wrong with what is no image of the old form.
+fn find_fault_new(image: &[u8]) -> Fault
+    requires { ⌜ (length (now image) ≡ oldSize → ⊥) ⌝ }
+    ensures { λ r. ⌜ r ≡ faultOf (now (image .entry)) ⌝ }
+{
+    if image.len() != SIZE {
+        return Fault::Length;
+    }
+    let k = ranges::first_out(image);
+    if k != ITEMS {
+        return Fault::Item(k);
+    }
+    let state = items::state_in(image, 0);
+    let rule = rules::first_broken(state);
+    if rule != rules::RULES {
+        return Fault::Rule(rule);
+    }
+    Fault::Nothing
 }

@@ -1,7 +1,8 @@
-// Whether an image has its length, and every item is in its range (specs/Items.antt, `tops` and `within`).
+// Whether an image of the new form has its length, and every item is in its range (specs/Items.antt, `tops` and `within`).
 ghost use mathlib.Core.Path.{_≡_};
 ghost use Prim.Native.Nat.{_<_};
 ghost use lib.ListN.{length};
+ghost use Rattle.forms.specs.Forms.{oldSize};
 ghost use Rattle.image.specs.Xdr.{itemsIn};
 ghost use Rattle.image.specs.Items.{itemCount, tops, itemAt};
 ghost use Rattle.image.specs.Images.{size, fits};
@@ -34,6 +35,7 @@ const CORE_TOPS: [u32; CORE] = [
 
 // Whether the length is right, and every item is in its range.
 pub(crate) fn fits(image: &[u8]) -> bool
+    requires { ⌜ (length (now image) ≡ oldSize → ⊥) ⌝ }
     ensures { λ r. ⌜ r ≡ fits (now (image .entry)) ⌝ }
 {
     if image.len() == SIZE {

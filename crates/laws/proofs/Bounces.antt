@@ -11,6 +11,7 @@ use mathlib.Core.Path.{_≡_, refl, sym, ap, subst⁻¹, _∙_}
 use lib.Dec.{T, eqb}
 use lib.ListN.{length, getD}
 use Rattle.common.specs.Lists.{eachFrom}
+use Rattle.common.proofs.Each.{each-at-index}
 use Rattle.voter.specs.declared.Voter.{Voter}
 use Rattle.voter.specs.Voting.{freshWith, isInvalid}
 use Rattle.voter.specs.Runs.{Reading, heard, heardAll, Quiet, isStruck, ThreeOdd, ThreeDiffer}
@@ -27,25 +28,8 @@ use Rattle.image.specs.Items.{sensorCount}
 use Rattle.laws.specs.Times.{next}
 use Rattle.laws.specs.Bounces.{sensorAt, AllQuiet, readingAt, readingsAt}
 use Rattle.laws.proofs.Stages.{stages}
+use Rattle.laws.proofs.Sensors.{fresh-each}
 use Rattle.laws.proofs.Lifted.{votes-length, step-keeps}
-
--- ---- Sensors by their numbers
-
--- Each sensor is so, one after the other or by its number.
-unfoldable pub Each : (Voter → Type 0) → List Voter → Type 0
-Each P [] = Unit {0}
-Each P (v ∷ vs) = P v × Each P vs
-
-pub each-at-index : (P : Voter → Type 0) (vs : List Voter) → Each P vs → (i : ℕ) → i < length vs → P (getD vs i (freshWith false))
-unfolding Each
-each-at-index P [] each i h = absurd (omega arith)
-each-at-index P (v ∷ vs) each zero h = each .0
-each-at-index P (v ∷ vs) each (suc i) h = each-at-index P vs (each .1) i (omega arith)
-
-pub each-by-index : (P : Voter → Type 0) (vs : List Voter) → ((i : ℕ) → i < length vs → P (getD vs i (freshWith false))) → Each P vs
-unfolding Each
-each-by-index P [] all = tt
-each-by-index P (v ∷ vs) all = (all 0 (omega arith), each-by-index P vs (λ i h. all (suc i) (omega arith)))
 
 -- ---- A sample
 
@@ -113,17 +97,9 @@ invalid-exactly-over-a-run i s within valid none rows =
 
 -- ---- A fresh start is such a state, for each of the eighteen sensors.
 
--- What holds of every fresh sensor holds of each of a fresh start.
-pub fresh-each : (P : Voter → Type 0) → ((held : Bool) → P (freshWith held)) → (stamp : ℕ) → Each P (freshOf stamp .voters)
-unfolding freshOf freshVoters Each
-fresh-each P of-fresh stamp =
-    let one : P (freshWith true) = of-fresh true in
-    let none : P (freshWith false) = of-fresh false in
-    (one, (none, (one, (one, (one, (none, (none, (none, (none, (none, (none, (one, (one, (one, (none, (none, (none, (none, tt))))))))))))))))))
-
 pub fresh-is-quiet : (stamp : ℕ) → AllQuiet (freshOf stamp)
 fresh-is-quiet stamp =
-    each-at-index Quiet (freshOf stamp .voters) (fresh-each Quiet fresh-sensor-is-quiet stamp)
+    each-at-index Quiet (freshWith false) (freshOf stamp .voters) (fresh-each Quiet fresh-sensor-is-quiet stamp)
 
 module _ (stamp i : ℕ) (within : i < sensorCount) where
   pub struck-exactly-from-a-fresh-start : (k : ℕ) → 1 ≤ k → (rows : List Row)

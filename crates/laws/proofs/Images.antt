@@ -1,6 +1,5 @@
--- Request K3 over every sequence, from a fresh start or a taken image: a reached state saves to an image that is taken, and comes back from
--- it but for the stamp and, until request K6, the counts of request K5. Where no count runs the lesson goes on as if it had not been handed
--- over.
+-- Requests K3 and K6 over every sequence, from a fresh start or a taken image of either form: a reached state saves to an image that is taken,
+-- comes back from it but for the stamp, and the lesson goes on as if it had not been handed over.
 -- Assumes nothing.
 use Prim.Native.Nat.{ℕ, _<_, _^_}
 use native.Mathlib.Omega.{arith}
@@ -12,10 +11,9 @@ use Rattle.controller.specs.Start.{startedAt}
 use Rattle.controller.specs.Stages.{elapsedOf, accepted}
 use Rattle.controller.specs.Steps.{refusalAt, refusalOf, stepAt, stepOf}
 use Rattle.controller.specs.Samples.{Row, answers}
-use Rattle.image.specs.Images.{imageOf, loadOf}
-use Rattle.image.specs.Counts.{countsDropped, NoCountRuns}
+use Rattle.image.specs.Images.{imageOf, loadedAt, loadOf}
 use Rattle.image.specs.Conditions.{Taken}
-use Rattle.image.proofs.RoundTrips.{allowed-is-taken, saved-then-loaded-but-for-counts, saved-then-loaded}
+use Rattle.image.proofs.RoundTrips.{image-is-of, allowed-is-taken, saved-then-loaded}
 use Rattle.laws.specs.Reached.{Reached}
 use Rattle.laws.specs.Laws.{Always}
 use Rattle.laws.specs.HandedOver.{butForStamp, AnswerTheSame, SameTimes, ahead, allAhead, Of32Bits}
@@ -28,22 +26,17 @@ use Rattle.laws.proofs.Lifted.{steps-keep, step-keeps, reached-is-allow
 pub reached-saves : Always (λ (s : State). Taken (imageOf s))
 reached-saves s reached = allowed-is-taken s (reached-is-allowed s reached)
 
--- .. and comes back from it with its counts at 0, at the new start stamp, whatever the other laptop held before; ..
-pub reached-comes-back-but-for-counts :
-    (s : State) →
-    Reached s →
-    (before : State) (stamp : ℕ) →
-    loadOf before (imageOf s) stamp ≡ record { refusal = 0; state = startedAt stamp (countsDropped s) }
-reached-comes-back-but-for-counts s reached = saved-then-loaded-but-for-counts s (reached-is-allowed s reached)
-
--- .. where no count runs, it comes back.
+-- .. and comes back from it, at the new start stamp, whatever the other laptop held before.
 pub reached-comes-back :
     (s : State) →
     Reached s →
-    NoCountRuns s →
     (before : State) (stamp : ℕ) →
     loadOf before (imageOf s) stamp ≡ record { refusal = 0; state = startedAt stamp s }
 reached-comes-back s reached = saved-then-loaded s (reached-is-allowed s reached)
+
+-- So a new start stamp adds no state to those that are reached: what it gives is loaded from a taken image.
+pub started-is-loaded : (s : State) → Reached s → (stamp : ℕ) → Taken (imageOf s) × (startedAt stamp s ≡ loadedAt stamp (imageOf s))
+started-is-loaded s reached stamp = (reached-saves s reached, sym (image-is-of s (reached-is-allowed s reached) stamp))
 
 -- ---- One step, on two controllers that are the same but for the stamp: both look at the stamp through what has elapsed alone
 
@@ -103,26 +96,15 @@ pub goes-on-the-same :
 unfolding startedAt
 goes-on-the-same s stamp rows otherRows times = goes-on s (startedAt stamp s) rows otherRows refl times
 
--- A lesson that is handed over goes on as it would with its counts at 0 ..
-pub handed-over-goes-on-but-for-counts :
-    (s : State) →
-    Reached s →
-    (before : State) (stamp : ℕ) (rows otherRows : List Row) →
-    SameTimes (countsDropped s) rows (startedAt stamp (countsDropped s)) otherRows →
-    AnswerTheSame (countsDropped s) rows (loadOf before (imageOf s) stamp .state) otherRows
-handed-over-goes-on-but-for-counts s reached before stamp rows otherRows times =
-    rw (reached-comes-back-but-for-counts s reached before stamp) (goes-on-the-same (countsDropped s) stamp rows otherRows times)
-
--- .. so where no count runs it goes on as if it had not been.
+-- A lesson that is handed over goes on as if it had not been.
 pub handed-over-goes-on :
     (s : State) →
     Reached s →
-    NoCountRuns s →
     (before : State) (stamp : ℕ) (rows otherRows : List Row) →
     SameTimes s rows (startedAt stamp s) otherRows →
     AnswerTheSame s rows (loadOf before (imageOf s) stamp .state) otherRows
-handed-over-goes-on s reached none before stamp rows otherRows times =
-    rw (reached-comes-back s reached none before stamp) (goes-on-the-same s stamp rows otherRows times)
+handed-over-goes-on s reached before stamp rows otherRows times =
+    rw (reached-comes-back s reached before stamp) (goes-on-the-same s stamp rows otherRows times)
 
 -- ---- On a clock that is ahead
 
@@ -165,10 +147,9 @@ same-times-ahead ms s (r ∷ rs) is32 are32 =
 pub handed-over-to-another-clock :
     (s : State) →
     Reached s →
-    NoCountRuns s →
     s .stamp < 2 ^ 32 →
     (before : State) (ms : ℕ) (rows : List Row) →
     Of32Bits rows →
     AnswerTheSame s rows (loadOf before (imageOf s) (ahead ms (s .stamp)) .state) (allAhead ms rows)
-handed-over-to-another-clock s reached none is32 before ms rows are32 =
-    handed-over-goes-on s reached none before (ahead ms (s .stamp)) rows (allAhead ms rows) (same-times-ahead ms s rows is32 are32)
+handed-over-to-another-clock s reached is32 before ms rows are32 =
+    handed-over-goes-on s reached before (ahead ms (s .stamp)) rows (allAhead ms rows) (same-times-ahead ms s rows is32 are32)

@@ -9,7 +9,10 @@ use mathlib.Core.Path.{_≡_}
 use lib.Dec.{T, eqb}
 use lib.ListN.{length}
 use mir.Facts.{yes-and}
+use Rattle.common.specs.Lists.{Each}
+use Rattle.common.proofs.Each.{each-so}
 use Rattle.voter.specs.declared.Voter.{Voter}
+use Rattle.voter.specs.Counts.{CountInRange, KeepsCountRules, CountKept}
 use Rattle.sequence.specs.declared.Doors.{Doors}
 use Rattle.sequence.specs.declared.Doors.the-variants.{Closed, Opening, Open, Closing}
 use Rattle.sequence.specs.declared.Gears.{Gears}
@@ -26,7 +29,7 @@ use Rattle.controller.specs.Stages.{anomaly, coreOrders, ordersStage}
 use Rattle.image.specs.Items.{sensorCount}
 use Rattle.image.specs.Conditions.{InvalidSensorHasCause, CausesTo13, Allowed}
 use Rattle.image.proofs.Keeping.{are-out, no-red}
-use Rattle.laws.proofs.Tests.{then}
+use Rattle.common.proofs.Tests.{then}
 use Rattle.laws.proofs.Wanted.{close-says, open-says, retract-says, extend-says}
 
 -- ---- Ages stop at 60,000.
@@ -122,9 +125,10 @@ module _ (elapsed stamp since cause : ℕ) (voters : List Voter) (p : Place) (os
       since ≤ oldest →
       CausesTo13 grownTo →
       InvalidSensorHasCause grownTo →
+      Each CountKept voters →
       Allowed (ordersStage grownTo)
   unfolding ordersStage coreOrders ordersOf allGrown anomaly
-  orders-allow eighteen m aged caused invalid =
+  orders-allow eighteen m aged caused invalid kept =
       let red : Bool = not (eqb cause 0) in
       let before : Orders = allGrown elapsed os in
       let general : Order = before .general in
@@ -137,6 +141,7 @@ module _ (elapsed stamp since cause : ℕ) (voters : List Voter) (p : Place) (os
       let extends = sound-order elapsed (wanted .extends) need stops general (before .retracts) (os .extends) (extend-needs p red m) in
       record {
         sensors = eighteen;
+        counts = each-so CountKept CountInRange (λ v own. own .inRange) voters kept;
         ages = (general-aged elapsed need stops (os .general), closes .aged, opens .aged, retracts .aged, extends .aged, aged);
         causes = caused;
         rules =
@@ -149,5 +154,6 @@ module _ (elapsed stamp since cause : ℕ) (voters : List Voter) (p : Place) (os
                   needed-keeps-general need stops general
                   (yes-and (not (areClosed (p .doors))) (not red) (are-out (p .doors) notClosed) (no-red grownTo none));
               invalidHasCause = invalid;
+              countsKeep = each-so CountKept KeepsCountRules (λ v own. own .rules) voters kept;
             };
       }

@@ -27,7 +27,7 @@ use Rattle.laws.specs.Ages.{changesAt, Timer, isOn, ageOf}
 use Rattle.laws.specs.Ages.Timer.{ofClose, ofOpen, ofRetract, ofExtend}
 use Rattle.laws.specs.Latched.{FourOff, Latched, OnceRed, GeneralByItsRule, GeneralOffIn}
 use Rattle.laws.specs.Laws.{Always}
-use Rattle.laws.proofs.Tests.{by-cases}
+use Rattle.common.proofs.Tests.{by-cases}
 use Rattle.laws.proofs.Stages.{stages, coreStages}
 use Rattle.laws.proofs.Wanted.{close-says, open-says, retract-says, extend-says}
 use Rattle.laws.proofs.Lifted.{step-keeps, taken-is-accepted}

@@ -1,7 +1,7 @@
-pub mod Tests
 pub mod Stages
 pub mod Wanted
 pub mod Model
+pub mod Sensors
 pub mod Kept
 pub mod Watched
 pub mod Lifted

@@ -8,8 +8,12 @@ use mathlib.Core.Path.{_≡_, refl, sym, _∙_, ap, subst}
 use native.Mathlib.Nat.{le-refl}
 use lib.Dec.{T, eqb, lit≤}
 use lib.ListN.{length}
+use Rattle.common.specs.Lists.{Each}
+use Rattle.common.proofs.Each.{each-of-both}
 use Rattle.common.proofs.Loops.{upTo-length, upTo-all}
 use Rattle.voter.specs.declared.Voter.{Voter}
+use Rattle.voter.specs.Counts.{CountInRange, KeepsCountRules, CountKept}
+use Rattle.voter.proofs.Kept.{fresh-is-kept}
 use Rattle.controller.specs.declared.Core.{Core}
 use Rattle.controller.specs.declared.State.{State}
 use Rattle.controller.specs.Votes.{handle, sensor, votesAt, allVoted, sightOf, seenOf, aimed}
@@ -24,6 +28,7 @@ use Rattle.laws.specs.Reached.Reached.{fresh, loaded, started, step}
 use Rattle.laws.specs.Laws.{Always}
 use Rattle.laws.proofs.Stages.{stages, coreStages}
 use Rattle.laws.proofs.Model.{unless-red, keeps-open}
+use Rattle.laws.proofs.Sensors.{fresh-each, votes-keep-counts}
 use Rattle.laws.proofs.Kept.{since-aged, orders-allow}
 use Rattle.laws.proofs.Watched.{accepted-to-13, accepted-has-cause, fresh-all-valid}
 
@@ -70,6 +75,12 @@ votes-length bytes voters =
     sym (ap length (upTo-all (votesAt bytes) 0 (length voters) voters (le-refl (length voters)))) ∙
     upTo-length (votesAt bytes) 0 (length voters) voters
 
+-- Its odd channels and counts, with their ranges and rules.
+pub counts-kept : (s : State) → Allowed s → Each CountKept (s .voters)
+counts-kept s allowed =
+    each-of-both CountInRange KeepsCountRules CountKept (λ v inRange rules. record { inRange = inRange; rules = rules })
+    (s .voters) (allowed .counts) (allowed .rules .countsKeep)
+
 accepted-allowed : (s : State) (stamp : ℕ) (bytes : List ℕ) → Allowed s → Allowed (accepted s stamp bytes)
 unfolding aimed stages coreStages
 accepted-allowed s stamp bytes allowed =
@@ -84,12 +95,14 @@ accepted-allowed s stamp bytes allowed =
     (since-aged (turned (s .voters) votes) elapsed (s .core .since))
     (accepted-to-13 s stamp bytes (allowed .causes))
     (accepted-has-cause s stamp bytes)
+    (votes-keep-counts bytes (s .voters) (counts-kept s allowed))
 
 fresh-allowed : (stamp : ℕ) → Allowed (freshOf stamp)
 unfolding movingHaveOpen freshOf freshCore freshOrders offLong freshVoters
 fresh-allowed stamp =
     record {
       sensors = refl;
+      counts = fresh-each CountInRange (λ held. fresh-is-kept held .inRange) stamp;
       ages = (lit≤ tt, lit≤ tt, lit≤ tt, lit≤ tt, lit≤ tt, lit≤ tt);
       causes = lit≤ tt;
       rules =
@@ -99,6 +112,7 @@ fresh-allowed stamp =
             onHasGeneral = (λ h. absurd h, λ h. absurd h, λ h. absurd h, λ h. absurd h);
             openHaveGeneral = λ notClosed none. absurd (notClosed refl);
             invalidHasCause = λ h. absurd (subst T fresh-all-valid h);
+            countsKeep = fresh-each KeepsCountRules (λ held. fresh-is-kept held .rules) stamp;
           };
     }
 
@@ -108,6 +122,7 @@ unfolding startedAt
 started-allowed s stamp allowed =
     record {
       sensors = allowed .sensors;
+      counts = allowed .counts;
       ages = allowed .ages;
       causes = allowed .causes;
       rules = started-keeps stamp s (allowed .rules);

@@ -2,7 +2,11 @@
 -- an image with close_EV on that is not wanted has opposites together.
 -- Assumes nothing.
 use mathlib.Core.Path.{refl}
+use Rattle.common.specs.Lists.{all}
+use Rattle.forms.specs.Forms.{inNewForm}
+use Rattle.voter.specs.Voting.{validChannels}
 use Rattle.voter.specs.Numbers.{channelsAt}
+use Rattle.voter.specs.Counts.{oddWithCount, noOddOfTwo, noneOfInvalid}
 use Rattle.voter.specs.Items.{sensorIn}
 use Rattle.sequence.specs.Numbers.{doorsAt, gearsAt}
 use Rattle.sequence.specs.Places.{movingHaveOpen}
@@ -11,7 +15,7 @@ use Rattle.controller.proofs.Computing.{rules as stepRules}
 use Rattle.image.specs.Xdr.{fourBytes, itemFrom, bytesOf, itemsIn}
 use Rattle.image.specs.Items.{sensorsTops, coreTops, tops, within, sensorsIn, stateIn}
 use Rattle.image.specs.Rules.{rules, rulesHold}
-use Rattle.image.specs.Images.{fits, loadedAt, refusalOf}
+use Rattle.image.specs.Images.{newItems, fits, loadedAt, refusalOf}
 use Rattle.image.specs.Cases.{fresh, opening}
 use Rattle.image.proofs.Exact.{taken-holds}
 use Rattle.laws.specs.Reached.Reached.{loaded}
@@ -30,6 +34,7 @@ unfolding
     fourBytes itemFrom bytesOf itemsIn
     sensorsTops coreTops tops within sensorsIn stateIn
     rules rulesHold movingHaveOpen
-    fits loadedAt refusalOf
+    all validChannels oddWithCount noOddOfTwo noneOfInvalid
+    inNewForm newItems fits loadedAt refusalOf
     fresh opening bothOn
 not-where-a-rule-is-broken law = law bothOn refl 0 .0 tt tt

@@ -42,7 +42,7 @@ use Rattle.laws.specs.GroundModel.PrintedMove.{retracts, outgoes}
 use Rattle.laws.specs.GroundModel.Move.{printed, added-closing}
 use Rattle.laws.specs.GroundModel.OneMoveOrNone.{one-move, no-move}
 use Rattle.laws.specs.GroundModel.OfTheGroundModel.{initially, and-then}
-use Rattle.laws.proofs.Tests.{so}
+use Rattle.common.proofs.Tests.{so}
 
 -- A move that waits for a sensor is made or not: doors or gears, the other staying.
 once :

@@ -22,7 +22,7 @@ use Rattle.controller.specs.Start.{freshVoters}
 use Rattle.controller.specs.Stages.{anomaly, coreMonitors, agesStage, voteStage, accepted}
 use Rattle.image.specs.Items.{lastCause}
 use Rattle.image.specs.Conditions.{InvalidSensorHasCause, CausesTo13}
-use Rattle.laws.proofs.Tests.{by-cases}
+use Rattle.common.proofs.Tests.{by-cases}
 use Rattle.laws.proofs.Stages.{stages, coreStages}
 
 -- ---- The first of some numbered tests

@@ -9,7 +9,8 @@ use lib.ListN.{length, getD}
 use Rattle.voter.specs.declared.Voter.{Voter}
 use Rattle.voter.specs.declared.Channels.the-variants.{All}
 use Rattle.voter.specs.Voting.{freshWith}
-use Rattle.voter.specs.Runs.{Reading, agree, Quiet, CountKept}
+use Rattle.voter.specs.Counts.{CountKept, NoCountRunsAt}
+use Rattle.voter.specs.Runs.{Reading, agree, Quiet}
 use Rattle.controller.specs.declared.State.{State}
 use Rattle.controller.specs.Votes.{channel}
 use Rattle.controller.specs.Steps.{stepOf}
@@ -28,13 +29,17 @@ AllValid s = (i : ℕ) → i < length (s .voters) → sensorAt i s .channels ≡
 abbrev pub AllQuiet : State → Type 0
 AllQuiet s = (i : ℕ) → i < length (s .voters) → Quiet (sensorAt i s)
 
--- The odd channel and the count of every sensor are as votes keep them.
+-- The odd channel and the count of every sensor are as request K6 has them: in their ranges, and by its rules.
 abbrev pub CountsKept : State → Type 0
 CountsKept s = (i : ℕ) → i < length (s .voters) → CountKept (sensorAt i s)
 
 -- Every count is 0.
 abbrev pub CountsAre0 : State → Type 0
 CountsAre0 s = (i : ℕ) → i < length (s .voters) → sensorAt i s .count ≡ 0
+
+-- At no sensor a count runs: no odd channel, and the count is 0.
+abbrev pub NoCountRuns : State → Type 0
+NoCountRuns s = (i : ℕ) → i < length (s .voters) → NoCountRunsAt (sensorAt i s)
 
 -- What its three channels say in a sample.
 abbrev pub readingAt : ℕ → List ℕ → Reading

@@ -5,7 +5,7 @@ use native.Mathlib.Omega.{arith}
 use mathlib.Core.Bool.{Bool, true, false, cond}
 use mathlib.Core.List.{List, [], _∷_, _++_}
 use mathlib.Core.Path.{_≡_}
-use lib.Dec.{ltb, lit≤}
+use lib.Dec.{eqb, ltb, lit≤}
 use lib.ListN.{length, length-append}
 use Rattle.common.specs.Ascii.{ascii}
 use Rattle.common.specs.Decimal.{decimal, decimalUpTo, digit0}
@@ -17,7 +17,7 @@ use Rattle.controller.specs.declared.Core.{Core}
 use Rattle.controller.specs.declared.State.{State}
 use Rattle.names.specs.Words.{entry, sensorNames, generalName, closesName, opensName, retractsName, extendsName, causeWords}
 use Rattle.names.proofs.Lengths.{sensor-length, voter-length, cause-length, doors-length, gears-length}
-use Rattle.plain.specs.Plain.{line, inMs, onOrOff, ofSensor, ofOrder, ofCause, sensorLines, orderLines, placeLines, restLines, plainOf}
+use Rattle.plain.specs.Plain.{line, inSamples, ofCount, inMs, onOrOff, ofSensor, ofOrder, ofCause, sensorLines, orderLines, placeLines, restLines, plainOf}
 
 -- ---- What is said
 
@@ -54,12 +54,29 @@ ms-length : (ms : ℕ) → length (inMs ms) ≤ 23
 unfolding inMs
 ms-length ms = omega (arith, length-append (decimal ms) (ascii " ms"), number-length ms)
 
-sensor-line : (k : ℕ) (v : Voter) → length (line (entry sensorNames k) (ofSensor v)) ≤ 54
+samples-length : (n : ℕ) → length (inSamples n) ≤ 28
+unfolding inSamples
+samples-length n = by-test (eqb n 1) where
+  by-test : (t : Bool) → length (decimal n ++ cond t (ascii " sample") (ascii " samples")) ≤ 28
+  by-test true = omega (arith, number-length n, length-append (decimal n) (ascii " sample"))
+  by-test false = omega (arith, number-length n, length-append (decimal n) (ascii " samples"))
+
+count-length : (odd count : ℕ) → length (ofCount odd count) ≤ 66
+unfolding ofCount
+count-length odd count = by-tests (eqb odd 0) (eqb count 0) where
+  by-tests : (noOdd none : Bool)
+      → length (cond noOdd (cond none [] (ascii ", the two differed in " ++ inSamples count)) (ascii ", channel " ++ decimal odd ++ ascii " odd in " ++ inSamples count)) ≤ 66
+  by-tests true true = omega arith
+  by-tests true false = simp length-append (omega (arith, samples-length count))
+  by-tests false none = simp length-append (omega (arith, number-length odd, samples-length count))
+
+sensor-line : (k : ℕ) (v : Voter) → length (line (entry sensorNames k) (ofSensor v)) ≤ 120
 unfolding ofSensor
 sensor-line k v =
-    rw (line-length (entry sensorNames k) (ofSensor v)) (simp length-append (omega (arith, sensor-length k, voter-length (numberOf v))))
+    rw (line-length (entry sensorNames k) (ofSensor v))
+    (simp length-append (omega (arith, sensor-length k, voter-length (numberOf v), count-length (v .odd) (v .count))))
 
-sensors-length : (k : ℕ) (vs : List Voter) → length (sensorLines k vs) ≤ 54 * length vs
+sensors-length : (k : ℕ) (vs : List Voter) → length (sensorLines k vs) ≤ 120 * length vs
 unfolding sensorLines
 sensors-length k [] = omega arith
 sensors-length k (v ∷ vs) =
@@ -101,7 +118,7 @@ rest-length c =
     ))
 
 -- All lines of 18 sensors.
-pub all-length : (s : State) → length (s .voters) ≡ 18 → length (plainOf s) ≤ 1375
+pub all-length : (s : State) → length (s .voters) ≡ 18 → length (plainOf s) ≤ 2563
 unfolding plainOf
 all-length s sensors =
     simp (length-append, line-length)

@@ -1,12 +1,16 @@
--- Request K3 on a fresh start: the lines that must be shown of it.
+-- Requests K3 and K6: the lines that must be shown of a fresh start, and of sensors at which a count runs.
 -- Assumes nothing.
 use Prim.Native.Nat.{ℕ}
 use Prim.Native.String.{String}
+use mathlib.Core.Bool.{true}
 use mathlib.Core.List.{List, [], _∷_, _++_}
 use Rattle.common.specs.Ascii.{ascii, lf}
 use Rattle.common.specs.Case.{Case}
 use Rattle.controller.specs.Start.{freshOf}
-use Rattle.plain.specs.Plain.{plainOf}
+use Rattle.voter.specs.declared.Channels.{Channels}
+use Rattle.voter.specs.declared.Channels.the-variants.{All, Without1, Without3, Nothing}
+use Rattle.voter.specs.Voting.{sensor}
+use Rattle.plain.specs.Plain.{ofSensor, plainOf}
 
 -- Lines, each with its LF.
 unfoldable pub linesOf : List String → List ℕ
@@ -48,3 +52,18 @@ freshLines =
 
 unfoldable pub freshStart : Case
 freshStart = record { name = "A fresh start"; gives = plainOf (freshOf 1000); wanted = linesOf freshLines }
+
+-- A sensor with these channels, which holds 1.
+abbrev pub tells : String → Channels → ℕ → ℕ → String → Case
+tells name channels odd count wanted = record { name = name; gives = ofSensor (sensor channels true odd count); wanted = ascii wanted }
+
+unfoldable pub sensorCases : List Case
+sensorCases =
+    freshStart ∷
+    tells "an odd channel, count 1" All 2 1 "all channels valid, held 1, channel 2 odd in 1 sample" ∷
+    tells "an odd channel, count 2" All 3 2 "all channels valid, held 1, channel 3 odd in 2 samples" ∷
+    tells "two that differed once" Without3 0 1 "channel 3 struck, held 1, the two differed in 1 sample" ∷
+    tells "two that differed twice" Without1 0 2 "channel 1 struck, held 1, the two differed in 2 samples" ∷
+    tells "none struck, no count" All 0 0 "all channels valid, held 1" ∷
+    tells "invalid" Nothing 0 0 "invalid, held 1" ∷
+    []

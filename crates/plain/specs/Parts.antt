@@ -1,4 +1,4 @@
--- Request K3: the items of an image and its rules by name, for a person who is told what is wrong with one.
+-- Requests K3 and K6: the items of an image of the new form and its rules by name, for a person who is told what is wrong with one.
 -- Assumes nothing.
 use Prim.Native.Nat.{ℕ}
 use mathlib.Core.List.{List, [], _∷_, _++_}
@@ -10,9 +10,15 @@ unfoldable pub twoEach : List ℕ → List ℕ → List (List ℕ) → List (Lis
 twoEach one other [] = []
 twoEach one other (name ∷ names) = (name ++ one) ∷ (name ++ other) ∷ twoEach one other names
 
--- "Per sensor its voter and held value".
+-- And four.
+unfoldable pub fourEach : List ℕ → List ℕ → List ℕ → List ℕ → List (List ℕ) → List (List ℕ)
+fourEach one two three four [] = []
+fourEach one two three four (name ∷ names) =
+    (name ++ one) ∷ (name ++ two) ∷ (name ++ three) ∷ (name ++ four) ∷ fourEach one two three four names
+
+-- "Per sensor its voter and held value", and behind them its odd channel and count.
 unfoldable pub sensorItems : List (List ℕ)
-sensorItems = twoEach (ascii ": voter") (ascii ": held value") sensorNames
+sensorItems = fourEach (ascii ": voter") (ascii ": held value") (ascii ": odd channel") (ascii ": count") sensorNames
 
 -- "Per order, as in the output row, on and age".
 unfoldable pub orderItems : List (List ℕ)
@@ -40,4 +46,7 @@ ruleWords =
     onRule extendsName ∷
     ascii "doors not CLOSED without a cause has general_EV on" ∷
     ascii "an invalid sensor has a cause" ∷
+    ascii "with all channels valid the odd channel is 0 exactly if the count is 0" ∷
+    ascii "with one channel struck the odd channel is 0" ∷
+    ascii "with the sensor invalid odd channel and count are 0" ∷
     []

@@ -1,9 +1,10 @@
--- Request K3: an image in plain words, each item by name, a line for each name; the two items of a sensor or an order share a line.
+-- Requests K3 and K6: an image in plain words, each item by name, a line for each name; the items of a sensor or an order share a line. Odd channel
+-- and count are told only where they are not 0.
 -- Assumes nothing.
 use Prim.Native.Nat.{ℕ, suc, _+_}
 use mathlib.Core.Bool.{Bool, true, false, cond}
 use mathlib.Core.List.{List, [], _∷_, _++_}
-use lib.Dec.{ltb}
+use lib.Dec.{eqb, ltb}
 use lib.ListN.{length}
 use Rattle.common.specs.Ascii.{ascii, lf}
 use Rattle.common.specs.Bits.{bit}
@@ -36,9 +37,20 @@ line name said = name ++ ascii ": " ++ said ++ lf ∷ []
 
 -- ---- What is said
 
--- A sensor: its voter and held value.
+-- So many samples.
+unfoldable pub inSamples : ℕ → List ℕ
+inSamples n = decimal n ++ cond (eqb n 1) (ascii " sample") (ascii " samples")
+
+-- What stands against a channel or, with two valid, against both: the odd channel and the count. Nothing where both are 0.
+unfoldable pub ofCount : ℕ → ℕ → List ℕ
+ofCount odd count =
+    cond (eqb odd 0)
+    (cond (eqb count 0) [] (ascii ", the two differed in " ++ inSamples count))
+    (ascii ", channel " ++ decimal odd ++ ascii " odd in " ++ inSamples count)
+
+-- A sensor: its voter and held value, and what stands against a channel.
 unfoldable pub ofSensor : Voter → List ℕ
-ofSensor v = entry voterWords (numberOf v) ++ ascii ", held " ++ (digit0 + bit (valueOf v)) ∷ []
+ofSensor v = entry voterWords (numberOf v) ++ ascii ", held " ++ ((digit0 + bit (valueOf v)) ∷ []) ++ ofCount (v .odd) (v .count)
 
 -- A time in ms.
 unfoldable pub inMs : ℕ → List ℕ

@@ -9,6 +9,8 @@ ghost use Rattle.names.specs.Words.{entry, sensorNames, orderNames};
 ghost use Rattle.texts.specs.Puts.{PutIfRoom, putOf};
 ghost use Rattle.plain.specs.Plain.{
   line,
+  inSamples,
+  ofCount,
   ofSensor,
   onOrOff,
   ofOrder,
@@ -28,7 +30,7 @@ use voter::Voter;
 
 // Puts all lines: so many bytes at most.
 pub(crate) fn put_all(text: &mut [u8], state: State) -> usize
-    ensures { λ r. ⌜ (length (plainOf state) ≤ 1375) × PutIfRoom (now (text .entry)) 0 (plainOf state) (now (text .exit)) r ⌝ }
+    ensures { λ r. ⌜ (length (plainOf state) ≤ 2563) × PutIfRoom (now (text .entry)) 0 (plainOf state) (now (text .exit)) r ⌝ }
 {
     let voters = state.voters;
     let core = state.core;
@@ -54,16 +56,46 @@ fn put_sensors(text: &mut [u8], at: usize, voters: [Voter; 18]) -> usize
     next
 }
 
-// Puts the line of sensor k: its voter and held value.
+// Puts the line of sensor k: its voter and held value, and what stands against a channel.
 fn sensor_line(text: &mut [u8], at: usize, k: usize, v: Voter) -> usize
     ensures { λ r. ⌜ PutIfRoom (now (text .entry)) at (line (entry sensorNames k) (ofSensor v)) (now (text .exit)) r ⌝ }
 {
-    let value = [texts::on_off(v.value()), b'\n'];
+    let value = [texts::on_off(v.value())];
     let named = names::put_sensor(text, at, k);
     let told = texts::put(text, named, b": ");
     let voter = names::put_voter(text, told, v.number() as usize);
     let held = texts::put(text, voter, b", held ");
-    texts::put(text, held, &value)
+    let valued = texts::put(text, held, &value);
+    let counted = put_count(text, valued, v.odd, v.count);
+    texts::put(text, counted, b"\n")
+}
+
+// Puts what stands against a channel, or against the two that are left.
+fn put_count(text: &mut [u8], at: usize, odd: u8, count: u8) -> usize
+    ensures { λ r. ⌜ PutIfRoom (now (text .entry)) at (ofCount odd count) (now (text .exit)) r ⌝ }
+{
+    if odd != 0 {
+        let told = texts::put(text, at, b", channel ");
+        let numbered = texts::put_number(text, told, odd as u64);
+        let next = texts::put(text, numbered, b" odd in ");
+        return put_samples(text, next, count);
+    }
+    if count == 0 {
+        return at;
+    }
+    let told = texts::put(text, at, b", the two differed in ");
+    put_samples(text, told, count)
+}
+
+// Puts so many samples.
+fn put_samples(text: &mut [u8], at: usize, n: u8) -> usize
+    ensures { λ r. ⌜ PutIfRoom (now (text .entry)) at (inSamples n) (now (text .exit)) r ⌝ }
+{
+    let numbered = texts::put_number(text, at, n as u64);
+    if n == 1 {
+        return texts::put(text, numbered, b" sample");
+    }
+    texts::put(text, numbered, b" samples")
 }
 
 // Puts the lines of the orders, as in the output row.

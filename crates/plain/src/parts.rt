@@ -1,12 +1,12 @@
 // The items and the rules of an image by name (specs/Parts.antt), each put at the front of a text if there is room for it.
-ghost use Prim.Native.Nat.{_<_};
+ghost use Prim.Native.Nat.{_<_, _≤_};
 ghost use lib.ListN.{length};
 ghost use Rattle.names.specs.Words.{entry, orderNames};
 ghost use Rattle.texts.specs.Puts.{PutIfRoom};
 ghost use Rattle.plain.specs.Parts.{sensorItems, orderItems, restNames, itemNames, onRule, ruleWords};
 
-// The place of the first order's items: before them stand the last stamp and two items for each sensor.
-const FIRST_ORDER: usize = 1 + 2 * names::SENSORS;
+// The place of the first order's items: before them stand the last stamp and the items of the sensors.
+const FIRST_ORDER: usize = 1 + voter::ITEMS * names::SENSORS;
 
 // The place of the items behind those of the orders, of which each has two.
 const REST: usize = FIRST_ORDER + 2 * names::ORDERS;
@@ -47,6 +47,31 @@ pub(crate) fn put_words(text: &mut [u8], k: usize) -> usize
     if k == 6 {
         return texts::put(text, 0, b"an invalid sensor has a cause");
     }
+    put_count_rule(text, k)
+}
+
+// Puts rule k in words, of those of odd channel and count.
+fn put_count_rule(text: &mut [u8], k: usize) -> usize
+    requires { ⌜ 7 ≤ k ⌝ }
+    ensures { λ r. ⌜ PutIfRoom (now (text .entry)) 0 (entry ruleWords k) (now (text .exit)) r ⌝ }
+{
+    if k == 7 {
+        return texts::put(
+            text,
+            0,
+            b"with all channels valid the odd channel is 0 exactly if the count is 0",
+        );
+    }
+    if k == 8 {
+        return texts::put(text, 0, b"with one channel struck the odd channel is 0");
+    }
+    if k == 9 {
+        return texts::put(
+            text,
+            0,
+            b"with the sensor invalid odd channel and count are 0",
+        );
+    }
     0
 }
 
@@ -55,11 +80,18 @@ fn put_of_sensor(text: &mut [u8], j: usize) -> usize
     requires { ⌜ j < length sensorItems ⌝ }
     ensures { λ r. ⌜ PutIfRoom (now (text .entry)) 0 (entry sensorItems j) (now (text .exit)) r ⌝ }
 {
-    let named = names::put_sensor(text, 0, j / 2);
-    if j % 2 == 0 {
+    let named = names::put_sensor(text, 0, j / voter::ITEMS);
+    let k = j % voter::ITEMS;
+    if k == 0 {
         return texts::put(text, named, b": voter");
     }
-    texts::put(text, named, b": held value")
+    if k == 1 {
+        return texts::put(text, named, b": held value");
+    }
+    if k == 2 {
+        return texts::put(text, named, b": odd channel");
+    }
+    texts::put(text, named, b": count")
 }
 
 // Puts the name of item j of those of the orders.

@@ -17,7 +17,7 @@ use Rattle.sequence.specs.Places.{movingHaveOpen}
 use Rattle.orders.specs.Timing.{allGrown, offTogether, ordersOf}
 use Rattle.controller.specs.declared.Core.{Core}
 use Rattle.controller.specs.Votes.{seenOf}
-use Rattle.laws.proofs.Tests.{by-cases}
+use Rattle.common.proofs.Tests.{by-cases}
 use Rattle.laws.specs.Bounds.{boundFor}
 use Rattle.settling.specs.Settled.{isHome, settled, Unsettled, SettledWithin, UnsettledIsEarly}
 use Rattle.settling.specs.CoreRuns.{Told, coreNext, coreAfter, Within, elapsedTold, OfEveryCoreRun}

@@ -12,7 +12,7 @@ use Rattle.orders.specs.declared.Orders.{Orders}
 use Rattle.orders.specs.Timing.{order, grownAge, grown, allGrown, switched, isOpening, isClosing, wantedOf, directed, offTogether, generalOf, ordersOf}
 use Rattle.sequence.specs.Places.{areClosed}
 use Rattle.orders.proofs.Laws.{on-is-wanted, needed-keeps-general}
-use Rattle.laws.proofs.Tests.{by-cases}
+use Rattle.common.proofs.Tests.{by-cases}
 use Rattle.settling.proofs.Phases.{Phase, doorsIn, at}
 use Rattle.settling.proofs.Phases.Phase.{opening, opened, underWay, arrived, closing, closed}
 

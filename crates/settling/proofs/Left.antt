@@ -11,7 +11,7 @@ use Rattle.sequence.specs.declared.Seen.{Seen}
 use Rattle.orders.specs.declared.Order.{Order}
 use Rattle.orders.specs.Timing.{grownAge, grown, directed}
 use Rattle.laws.specs.Bounds.{boundFor}
-use Rattle.laws.proofs.Tests.{by-cases}
+use Rattle.common.proofs.Tests.{by-cases}
 use Rattle.settling.proofs.Waits.{
   lacking,
   work,

@@ -8,7 +8,7 @@ use native.Mathlib.Omega.{arith}
 use lib.Dec.{T, leb, nleb→lt}
 use Rattle.orders.specs.declared.Order.{Order}
 use Rattle.orders.specs.Timing.{oldest, order, grownAge, grown, onFor, offFor, switched, directed}
-use Rattle.laws.proofs.Tests.{by-cases}
+use Rattle.common.proofs.Tests.{by-cases}
 
 -- What an order that is off still waits for, by the ages of general_EV and of its opposite: it starts within this and one step.
 abbrev pub lacking : ℕ → ℕ → ℕ

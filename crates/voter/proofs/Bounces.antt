@@ -7,7 +7,8 @@ use mathlib.Core.Logic.{_↔_}
 use mathlib.Core.Path.{_≡_, refl, subst, subst⁻¹}
 use lib.Dec.{T, eqb}
 use Rattle.voter.specs.Voting.{isInvalid, validChannels}
-use Rattle.voter.specs.Runs.{Reading, isOdd, differ, heardAll, hasTwo, isStruck, ThreeOdd, ThreeDiffer}
+use Rattle.voter.specs.Counts.{hasTwo}
+use Rattle.voter.specs.Runs.{Reading, isOdd, differ, heardAll, isStruck, ThreeOdd, ThreeDiffer}
 use Rattle.voter.specs.declared.Channels.{Channels}
 use Rattle.voter.specs.declared.Channels.the-variants.{All}
 use Rattle.voter.specs.declared.Voter.{Voter}

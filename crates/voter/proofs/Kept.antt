@@ -1,15 +1,35 @@
--- A sensor's odd channel and count (request K5): every vote keeps to what they can be, and where the valid channels agree none is left.
+-- A sensor's odd channel and count (requests K5 and K6): the tests say what the rules say, every vote keeps to ranges and rules, and where the
+-- valid channels agree no count is left.
 -- Assumes nothing.
 use Prim.Native.Nat.{ℕ, _≤_, zero-le}
 use native.Mathlib.Omega.{arith}
-use mathlib.Core.Bool.{Bool, true, false, not, Bool·beq}
+use mathlib.Core.Bool.{Bool, true, false, not, _&&_, Bool·beq}
 use mathlib.Core.List.{List}
+use mathlib.Core.Logic.{_↔_}
 use mathlib.Core.Path.{_≡_, refl, sym, ap, subst, subst⁻¹, _∙_}
-use lib.Dec.{T, eqb, eqb→eq, lit≤}
+use lib.Dec.{T, eqb, eqb→eq, lit≤, lit<}
+use lib.ListN.{getD}
+use borrow.Author.Tests.{eq-eqb}
+use mir.Facts.{and-yes, yes-and}
+use Rattle.common.proofs.Tests.{then, so}
 use Rattle.voter.specs.Voting.{uncounted, freshWith, oddOf, majorityOf, byOdd, ofThree, ofTwo, votedBy, voted, noneLeft, isInvalid, validChannels}
 use Rattle.voter.specs.Numbers.{channelsNumber}
-use Rattle.voter.specs.Items.{sensorIn, NoCountRunsAt}
-use Rattle.voter.specs.Runs.{Reading, oddIn, majority, agree, heard, CountKept}
+use Rattle.voter.specs.Counts.{
+  CountInRange,
+  hasAll,
+  hasTwo,
+  noOdd,
+  noCount,
+  oddWithCount,
+  noOddOfTwo,
+  noneOfInvalid,
+  KeepsCountRules,
+  CountKept,
+  countRuns,
+  NoCountRunsAt,
+}
+use Rattle.voter.specs.Items.{SensorInRange, sensorIn}
+use Rattle.voter.specs.Runs.{Reading, oddIn, majority, agree, heard}
 use Rattle.voter.specs.declared.Channels.{Channels}
 use Rattle.voter.specs.declared.Channels.the-variants.{All, Without1, Without2, Without3, Nothing}
 use Rattle.voter.specs.declared.Voter.{Voter}
@@ -18,25 +38,104 @@ use Rattle.voter.proofs.Outcomes.OfThree.{agreed, suspected, struck}
 use Rattle.voter.proofs.Outcomes.OfTwo.{together, doubted, lost}
 use Rattle.voter.proofs.Odd.{odd-to-3, at-least-one}
 
+-- ---- The tests say what the rules say
+
+are-0 : (n : ℕ) → T (eqb n 0) → n ≡ 0
+are-0 n h = eqb→eq n 0 h
+
+is-0 : (n : ℕ) → n ≡ 0 → T (eqb n 0)
+is-0 n e = subst⁻¹ T (eq-eqb n 0 e) tt
+
+one-then-other : (a b : Bool) → T (Bool·beq a b) → T a → T b
+one-then-other true true h t = tt
+one-then-other true false h t = h
+one-then-other false b h t = absurd t
+
+other-then-one : (a b : Bool) → T (Bool·beq a b) → T b → T a
+other-then-one true b h t = tt
+other-then-one false true h t = h
+other-then-one false false h t = t
+
+both-ways : (a b : Bool) → (T a → T b) → (T b → T a) → T (Bool·beq a b)
+both-ways true true to from = tt
+both-ways true false to from = to tt
+both-ways false true to from = from tt
+both-ways false false to from = tt
+
+all-has-three : (channels : Channels) → channels ≡ All → T (eqb (validChannels channels) 3)
+unfolding validChannels
+all-has-three channels e = subst⁻¹ (λ (c : Channels). T (eqb (validChannels c) 3)) e tt
+
+three-is-all : (channels : Channels) → T (eqb (validChannels channels) 3) → channels ≡ All
+unfolding validChannels
+three-is-all All h = refl
+three-is-all Without1 h = absurd h
+three-is-all Without2 h = absurd h
+three-is-all Without3 h = absurd h
+three-is-all Nothing h = absurd h
+
+module _ (v : Voter) where
+  -- Where the three tests hold the rules are kept ..
+  pub tests-keep-counts : T (oddWithCount v) → T (noOddOfTwo v) → T (noneOfInvalid v) → KeepsCountRules v
+  unfolding oddWithCount noOddOfTwo noneOfInvalid
+  tests-keep-counts with-all with-two with-none =
+      record {
+        allValid = λ all. (
+          λ e. are-0 (v .count) (one-then-other (noOdd v) (noCount v) (same all) (is-0 (v .odd) e)),
+          λ e. are-0 (v .odd) (other-then-one (noOdd v) (noCount v) (same all) (is-0 (v .count) e)),
+        );
+        oneStruck = λ two. are-0 (v .odd) (then (hasTwo v) (noOdd v) with-two two);
+        invalid = λ none. let parts = and-yes (noOdd v) (noCount v) (then (isInvalid v) (noOdd v && noCount v) with-none none) in
+            (are-0 (v .odd) (parts .0), are-0 (v .count) (parts .1));
+      }
+    where
+      same : v .channels ≡ All → T (Bool·beq (noOdd v) (noCount v))
+      same all = then (hasAll v) (Bool·beq (noOdd v) (noCount v)) with-all (all-has-three (v .channels) all)
+
+  -- .. and where they are kept the tests hold.
+  pub keeps-odd-with-count : KeepsCountRules v → T (oddWithCount v)
+  unfolding oddWithCount
+  keeps-odd-with-count keeps = so (hasAll v) _ (λ three. same (keeps .allValid (three-is-all (v .channels) three)))
+    where
+      same : (v .odd ≡ 0) ↔ (v .count ≡ 0) → T (Bool·beq (noOdd v) (noCount v))
+      same each =
+          both-ways (noOdd v) (noCount v)
+          (λ t. is-0 (v .count) (each .0 (are-0 (v .odd) t))) (λ t. is-0 (v .odd) (each .1 (are-0 (v .count) t)))
+
+  pub keeps-no-odd-of-two : KeepsCountRules v → T (noOddOfTwo v)
+  unfolding noOddOfTwo
+  keeps-no-odd-of-two keeps = so (hasTwo v) _ (λ two. is-0 (v .odd) (keeps .oneStruck two))
+
+  pub keeps-none-of-invalid : KeepsCountRules v → T (noneOfInvalid v)
+  unfolding noneOfInvalid
+  keeps-none-of-invalid keeps =
+      so (isInvalid v) _
+      (λ none. let parts = keeps .invalid none in yes-and (noOdd v) (noCount v) (is-0 (v .odd) (parts .0)) (is-0 (v .count) (parts .1)))
+
+-- ---- Items in their ranges are of a sensor whose odd channel and count are in theirs.
+
+pub in-range-counts : (items : List ℕ) → SensorInRange items → CountInRange (sensorIn items)
+unfolding sensorIn
+in-range-counts items h =
+    record { odd = omega (arith, h .ranges 2 (lit< tt)); count = omega (arith, h .ranges 3 (lit< tt)) }
+
 -- ---- Where no count runs
 
 uncounted-is-kept : (channels : Channels) (held : Bool) → CountKept (uncounted channels held)
 uncounted-is-kept channels held =
     record {
-      odd = zero-le;
-      count = zero-le;
-      allValid = λ all. (λ e. refl, λ e. refl);
-      oneStruck = λ left. refl;
-      invalid = λ none. (refl, refl);
+      inRange = record { odd = zero-le; count = zero-le };
+      rules =
+          record {
+            allValid = λ all. (λ e. refl, λ e. refl);
+            oneStruck = λ left. refl;
+            invalid = λ none. (refl, refl);
+          };
     }
 
 pub fresh-is-kept : (held : Bool) → CountKept (freshWith held)
 unfolding freshWith
 fresh-is-kept held = uncounted-is-kept All held
-
-pub sensor-is-kept : (items : List ℕ) → CountKept (sensorIn items)
-unfolding sensorIn
-sensor-is-kept items = uncounted-is-kept _ _
 
 -- ---- Every vote keeps to it.
 
@@ -45,11 +144,13 @@ unfolding isInvalid validChannels
 kept-of-three v r w (agreed quiet) = uncounted-is-kept All _
 kept-of-three v r w (suspected low few) =
     record {
-      odd = odd-to-3 r;
-      count = omega (arith, few);
-      allValid = λ all. (λ e. absurd (omega (arith, low, e)), λ e. absurd (omega (arith, at-least-one v (oddOf (r .0) (r .1) (r .2)), e)));
-      oneStruck = λ left. absurd left;
-      invalid = λ none. absurd none;
+      inRange = record { odd = odd-to-3 r; count = omega (arith, few) };
+      rules =
+          record {
+            allValid = λ all. (λ e. absurd (omega (arith, low, e)), λ e. absurd (omega (arith, at-least-one v (oddOf (r .0) (r .1) (r .2)), e)));
+            oneStruck = λ left. absurd left;
+            invalid = λ none. absurd none;
+          };
     }
 kept-of-three v r w (struck low many) = uncounted-is-kept _ _
 
@@ -59,11 +160,13 @@ unfolding isInvalid
 kept-of-two v some left apart w (together value same) = uncounted-is-kept (v .channels) value
 kept-of-two v some left apart w (doubted differ few) =
     record {
-      odd = zero-le;
-      count = omega (arith, few);
-      allValid = λ all. absurd (some all);
-      oneStruck = λ two. refl;
-      invalid = λ none. absurd (subst T left none);
+      inRange = record { odd = zero-le; count = omega (arith, few) };
+      rules =
+          record {
+            allValid = λ all. absurd (some all);
+            oneStruck = λ two. refl;
+            invalid = λ none. absurd (subst T left none);
+          };
     }
 kept-of-two v some left apart w (lost differ many) = uncounted-is-kept Nothing _
 
@@ -82,7 +185,7 @@ voted-is-kept v a b c before = by (v .channels) refl
     by Nothing e = before
 
 -- So with count 0 there is no odd channel.
-pub no-odd-at-0 : (v : Voter) → CountKept v → v .count ≡ 0 → NoCountRunsAt v
+pub no-odd-at-0 : (v : Voter) → KeepsCountRules v → v .count ≡ 0 → NoCountRunsAt v
 unfolding isInvalid validChannels
 no-odd-at-0 v kept none = by (v .channels) refl
   where
@@ -121,4 +224,23 @@ agreement-leaves-none v kept r same = by (v .channels) refl same
     by Without1 e same = agreed-of-two v (Bool·beq (r .1) (r .2)) (ofTwo v (r .1) (r .2)) same (of-two v (r .1) (r .2))
     by Without2 e same = agreed-of-two v (Bool·beq (r .0) (r .2)) (ofTwo v (r .0) (r .2)) same (of-two v (r .0) (r .2))
     by Without3 e same = agreed-of-two v (Bool·beq (r .0) (r .1)) (ofTwo v (r .0) (r .1)) same (of-two v (r .0) (r .1))
-    by Nothing e same = let none = kept .invalid (subst⁻¹ T (ap noneLeft e) tt) in record { odd = none .0; count = none .1 }
+    by Nothing e same = let none = kept .rules .invalid (subst⁻¹ T (ap noneLeft e) tt) in record { odd = none .0; count = none .1 }
+
+-- As they do where all three say the same.
+all-the-same : (a b c : Bool) → oddOf a b c ≡ 0 → T (Bool·beq a b) × T (Bool·beq b c) × T (Bool·beq a c)
+unfolding oddOf
+all-the-same true true true e = (tt, tt, tt)
+all-the-same true true false e = absurd (omega arith)
+all-the-same true false true e = absurd (omega arith)
+all-the-same true false false e = absurd (omega arith)
+all-the-same false true true e = absurd (omega arith)
+all-the-same false true false e = absurd (omega arith)
+all-the-same false false true e = absurd (omega arith)
+all-the-same false false false e = (tt, tt, tt)
+
+pub no-odd-agrees : (channels : Channels) (r : Reading) → oddIn r ≡ 0 → T (agree channels r)
+no-odd-agrees All r e = is-0 (oddIn r) e
+no-odd-agrees Without1 r e = all-the-same (r .0) (r .1) (r .2) e .1
+no-odd-agrees Without2 r e = all-the-same (r .0) (r .1) (r .2) e .2
+no-odd-agrees Without3 r e = all-the-same (r .0) (r .1) (r .2) e .0
+no-odd-agrees Nothing r e = tt

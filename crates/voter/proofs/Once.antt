@@ -18,6 +18,10 @@ use Rattle.voter.proofs.Voter.tops.Kinds as tops-kinds
 use Rattle.voter.proofs.Voter.tops.Reads as tops-reads
 use Rattle.voter.proofs.Voter.from_items.Kinds as from-items-kinds
 use Rattle.voter.proofs.Voter.from_items.Reads as from-items-reads
+use Rattle.voter.proofs.Voter.count_rules.Kinds as count-rules-kinds
+use Rattle.voter.proofs.Voter.count_rules.Reads as count-rules-reads
+use Rattle.voter.proofs.Voter.count_runs.Kinds as count-runs-kinds
+use Rattle.voter.proofs.Voter.count_runs.Reads as count-runs-reads
 
 pub fresh-once : OneAnswer 0 fresh-kinds.ps fresh-kinds.r fresh-reads.Post
 fresh-once κs a x y s t p q = p ∙ sym q
@@ -42,3 +46,9 @@ tops-once κs a x y s t p q = p ∙ sym q
 
 pub from-items-once : OneAnswer 0 from-items-kinds.ps from-items-kinds.r from-items-reads.Post
 from-items-once κs a x y s t p q = p ∙ sym q
+
+pub count-rules-once : OneAnswer 0 count-rules-kinds.ps count-rules-kinds.r count-rules-reads.Post
+count-rules-once κs a x y s t p q = p ∙ sym q
+
+pub count-runs-once : OneAnswer 0 count-runs-kinds.ps count-runs-kinds.r count-runs-reads.Post
+count-runs-once κs a x y s t p q = p ∙ sym q

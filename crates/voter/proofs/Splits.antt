@@ -10,7 +10,8 @@ use mathlib.Core.Path.{_≡_, _∙_, refl, sym, ap, subst, subst⁻¹}
 use lib.Dec.{T, eqb}
 use Rattle.voter.specs.Voting.{differInARow, ofTwo, freshWith, votedBy, voted, valueOf, noneLeft, isInvalid, validChannels}
 use Rattle.voter.specs.Numbers.{channelsAt}
-use Rattle.voter.specs.Runs.{Reading, oddIn, majority, agree, differ, heard, heardAll, hasTwo, ThreeDiffer}
+use Rattle.voter.specs.Counts.{hasTwo}
+use Rattle.voter.specs.Runs.{Reading, oddIn, majority, agree, differ, heard, heardAll, ThreeDiffer}
 use Rattle.voter.specs.declared.Channels.{Channels}
 use Rattle.voter.specs.declared.Channels.the-variants.{All, Without1, Without2, Without3, Nothing}
 use Rattle.voter.specs.declared.Voter.{Voter}

@@ -1,15 +1,15 @@
--- Request K5 over samples in a row: what its laws speak of, in its words. The count comes in only where a law starts (`Quiet`) and where it
--- is said what it can be (`CountKept`). Only accepted samples are heard here.
+-- Request K5 over samples in a row: what its laws speak of, in its words. The count comes in only where a law starts (`Quiet`). Only
+-- accepted samples are heard here.
 -- Assumes nothing.
 use Prim.Native.Nat.{ℕ, _≤_}
 use mathlib.Core.Bool.{Bool, true, not, Bool·beq}
 use mathlib.Core.List.{List, [], _∷_, _++_}
-use mathlib.Core.Logic.{_↔_}
 use mathlib.Core.Path.{_≡_}
 use lib.Dec.{T, eqb}
 use Rattle.common.specs.Bits.{isOne}
-use Rattle.voter.specs.Voting.{oddOf, majorityOf, voted, isInvalid, validChannels}
+use Rattle.voter.specs.Voting.{oddOf, majorityOf, voted}
 use Rattle.voter.specs.Numbers.{numberOf}
+use Rattle.voter.specs.Counts.{hasTwo}
 use Rattle.voter.specs.declared.Channels.{Channels}
 use Rattle.voter.specs.declared.Channels.the-variants.{All, Without1, Without2, Without3, Nothing}
 use Rattle.voter.specs.declared.Voter.{Voter}
@@ -63,10 +63,6 @@ heardAll v (r ∷ rs) = heardAll (heard v r) rs
 abbrev pub Quiet : Voter → Type 0
 Quiet v = (v .channels ≡ All) × (v .count ≡ 0)
 
--- One channel is struck, and two are valid.
-abbrev pub hasTwo : Voter → Bool
-hasTwo v = eqb (validChannels (v .channels)) 2
-
 -- Channel k, 1 to 3, is struck, and the sensor is not invalid.
 abbrev pub isStruck : ℕ → Voter → Bool
 isStruck k v = eqb (numberOf v) k
@@ -94,12 +90,3 @@ pub record ThreeDiffer (v : Voter) (readings : List Reading) : Type 0 where
   pub differing :
       (let two = heardAll v (three .earlier) .channels in
       T (differ two (three .first)) × T (differ two (three .second)) × T (differ two (three .third)))
-
--- Odd channel and count as every vote keeps them: 0 to 3 and 0 to 2; with all channels valid there is an odd one exactly if the count is not
--- 0; with one struck there is none; and with the sensor invalid both are 0.
-pub record CountKept (v : Voter) : Type 0 where
-  pub odd : v .odd ≤ 3
-  pub count : v .count ≤ 2
-  pub allValid : v .channels ≡ All → (v .odd ≡ 0) ↔ (v .count ≡ 0)
-  pub oneStruck : T (hasTwo v) → v .odd ≡ 0
-  pub invalid : T (isInvalid v) → (v .odd ≡ 0) × (v .count ≡ 0)

@@ -1,4 +1,4 @@
-// A sensor as items of an image (specs/Items.antt; request K3), and the number that its first item is (specs/Numbers.antt).
+// A sensor as items of an image (specs/Items.antt; requests K3 and K6), and the number that its first item is (specs/Numbers.antt).
 ghost use mathlib.Core.Path.{_≡_};
 ghost use Rattle.voter.specs.Numbers.{channelsNumber, channelsAt, numberOf};
 ghost use Rattle.voter.specs.Items.{sensorItems, sensorTops, sensorIn};
@@ -15,25 +15,35 @@ impl Voter {
         number_of(channels)
     }
 
-    // Its items. The odd channel and the count are not among them.
+    // Its items: voter, held value, odd channel and count.
     pub fn items(self) -> [u32; ITEMS]
         ensures { λ r. ⌜ r ≡ sensorItems self ⌝ }
     {
-        [self.number(), self.held as u32]
+        [
+            self.number(),
+            self.held as u32,
+            self.odd as u32,
+            self.count as u32,
+        ]
     }
 
     // The most that each item of a sensor may be.
     pub fn tops() -> [u32; ITEMS]
         ensures { λ r. ⌜ r ≡ sensorTops ⌝ }
     {
-        [4, 1]
+        [4, 1, 3, 2]
     }
 
-    // The sensor that items are of. No count runs: until request K6 an image has no place for it.
+    // The sensor that items are of. Of odd channel and count the last byte is taken.
     pub fn from_items(items: [u32; ITEMS]) -> Self
         ensures { λ r. ⌜ r ≡ sensorIn items ⌝ }
     {
-        Voter::uncounted(channels_at(items[0]), items[1] == 1)
+        Voter {
+            channels: channels_at(items[0]),
+            held: items[1] == 1,
+            odd: (items[2] % 256) as u8,
+            count: (items[3] % 256) as u8,
+        }
     }
 }
 

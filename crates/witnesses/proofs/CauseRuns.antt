@@ -16,7 +16,7 @@ use Rattle.laws.specs.Reached.Reached.{fresh}
 use Rattle.laws.specs.Times.{next}
 use Rattle.laws.specs.Laws.{Sometimes, hasCause}
 use Rattle.witnesses.specs.CauseRuns.{causeRuns, lastCauses, FoundInTurn}
-use Rattle.laws.proofs.Tests.{by-cases}
+use Rattle.common.proofs.Tests.{by-cases}
 use Rattle.laws.proofs.Computing.{runs}
 use Rattle.laws.proofs.Sometimes.{after-is-reached}
 

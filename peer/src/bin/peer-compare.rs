@@ -1,12 +1,13 @@
 //! `peer-compare SEED COUNT --bin DIR [--stdout-only] [--without NAME]..`: the traces of seeds SEED, SEED+1, .. over
 //! all kinds in turn, through `replay` and `waves` of DIR and through the peer, byte for byte; the dump of each and
-//! one more of each seed through `sheet`; the image of each, what goes on from it and one more image of each seed
-//! through `handover`, and its dump through `waves`; once, before them, what `wall` writes and what bad use gets.
+//! one more of each seed through `sheet`; the image of each, what goes on from it, one more image of each seed and both
+//! images in both forms through `handover`, and its dump through `waves`; once, before them, what `wall` writes and
+//! what bad use gets.
 use peer::damage::{dump, DUMP_KINDS};
 use peer::dump::{sheet_bytes, waves_bytes};
 use peer::gen::{trace, KINDS};
 use peer::handover::{handover_bytes, last_line, waves_on_bytes, Said as Line, Task};
-use peer::image::{layout, BYTES};
+use peer::image::{layout, Form};
 use peer::image_gen::{image, second_trace, IMAGE_KINDS};
 use peer::page::check;
 use peer::rules::Rules;
@@ -48,16 +49,17 @@ enum Said {
     Something(bool),
     /// Nothing, or one line that begins with the program's name and has this in it.
     Line(&'static str, Option<String>),
-    /// Lines of which the last says that nothing was saved.
-    Unsaved,
+    /// Lines of which the last says that nothing was saved; two of them, the first with this in it, where it is given.
+    Unsaved(Option<String>),
 }
 
 /// The first difference of two outputs: of images by item, of all else by line.
 fn first_difference(theirs: &[u8], ours: &[u8]) -> String {
-    if ours.len() == BYTES && theirs.len() == BYTES {
-        let place = (0..BYTES).step_by(4).find(|&n| theirs[n..n + 4] != ours[n..n + 4]).unwrap_or(0);
+    let form = Form::of(&Rules::default(), ours.len());
+    if let (Some(form), true) = (form, ours.len() == theirs.len()) {
+        let place = (0..form.bytes()).step_by(4).find(|&n| theirs[n..n + 4] != ours[n..n + 4]).unwrap_or(0);
         let number = |image: &[u8]| image[place..place + 4].iter().fold(0u32, |n, &b| n << 8 | u32::from(b));
-        let item = layout(&Rules::default())[place / 4];
+        let item = layout(&Rules::default(), form)[place / 4];
         let (theirs, ours) = (number(theirs), number(ours));
         return format!("item {}, {item:?}\n  program: {theirs}\n  peer:    {ours}", place / 4 + 1);
     }
@@ -100,10 +102,13 @@ fn differs(ran: &Ran, wanted: &[u8], said: &Said) -> Option<String> {
             let plain = one && line.starts_with(&format!("{name}: ")) && line.contains(&holds[..]);
             (!plain).then(|| format!("not one line `{name}: ..{holds}..` on standard error: {text}"))
         }
-        Said::Unsaved => {
+        Said::Unsaved(first) => {
             let said = String::from_utf8_lossy(&ran.err);
             let last = said.lines().last().unwrap_or_default();
-            (!last.contains("nothing was saved")).then(|| format!("not said that nothing was saved: {text}"))
+            let of_two =
+                first.as_ref().is_none_or(|first| lines == 2 && said.lines().next().unwrap().contains(first));
+            let plain = of_two && last.contains("nothing was saved");
+            (!plain).then(|| format!("not said that nothing was saved, and why: {text}"))
         }
         _ => None,
     }
@@ -168,7 +173,7 @@ enum Wrong {
 #[rustfmt::skip]
 enum Sort {
     Replay(usize), Waves, WavesOn, SheetOfRun, Sheet(usize),
-    Save, ShowOfRun, Resume, SaveFrom, Show(usize),
+    Save, ShowOfRun, Resume, SaveFrom, Show(usize), ToNew, ToOld,
 }
 
 #[derive(Clone, Copy, Default)]
@@ -215,7 +220,7 @@ struct Job<'a> {
 fn file_differs(path: &str, wanted: &[u8]) -> Option<String> {
     match std::fs::read(path) {
         Ok(bytes) if bytes == wanted => None,
-        Ok(bytes) if bytes.len() == BYTES && wanted.len() == BYTES => Some(first_difference(&bytes, wanted)),
+        Ok(bytes) if bytes.len() == wanted.len() => Some(first_difference(&bytes, wanted)),
         Ok(bytes) => Some(format!("{path} has {} bytes, not {}", bytes.len(), wanted.len())),
         Err(e) => Some(format!("{path}: {e}")),
     }
@@ -255,9 +260,26 @@ to repeat it, in peer/:
 /// What standard error need hold of what the peer says: which refusal an image got.
 fn holds(said: &Option<Line>) -> Option<String> {
     said.as_ref().map(|line| match line {
-        Line::Untaken(untaken) => format!("refusal {}", untaken.refusal),
+        Line::Untaken(untaken) | Line::Unconverted(untaken) => format!("refusal {}", untaken.refusal),
         _ => String::new(),
     })
+}
+
+/// A task of HANDOVER, with its words as they are told to a person and as they are.
+fn job_hands<'a>(
+    program: &'a str,
+    sort: Sort,
+    task: Task,
+    (told, args): (&'static str, &[&str]),
+    input: &[u8],
+    make: String,
+) -> Job<'a> {
+    let (wanted, said) = handover_bytes(&Rules::default(), task, input);
+    let args = args.iter().map(|word| word.to_string()).collect();
+    let (refused, said) = (said.is_some(), Said::Line("handover", holds(&said)));
+    let (peer, file) = ("peer-handover", if input.is_empty() { "/dev/null" } else { "trace.in" });
+    let input = input.to_vec();
+    Job { sort, program, args, told, peer, input, wanted, said, refused, make, file, writes: None }
 }
 
 /// A task of saving: the image is wanted in a file, which stays as it was where there is none, and standard output
@@ -265,11 +287,36 @@ fn holds(said: &Option<Line>) -> Option<String> {
 fn job_saves<'a>(job: Job<'a>, path: &str, before: &[u8]) -> Job<'a> {
     if job.wanted.is_empty() {
         let writes = Some((path.into(), before.into(), before.into()));
-        return Job { writes, said: Said::Unsaved, ..job };
+        return Job { writes, said: Said::Unsaved(None), ..job };
     }
     let line = last_line(&Rules::default(), &job.input).unwrap_or_default();
     let said = format!("{path}: the lesson after line {line}\n").into_bytes();
     Job { writes: Some((path.into(), before.into(), job.wanted)), wanted: said, ..job }
+}
+
+/// A task of converting: the image is wanted in a file, which stays as it was where it is refused, or where it is
+/// neither empty nor as long as an image.
+fn job_converts<'a>(job: Job<'a>, form: Form, path: &str, from: &str, before: &[u8]) -> Job<'a> {
+    let free = before.is_empty() || Form::of(&Rules::default(), before.len()).is_some();
+    let unsaved = |job: Job<'a>, first| {
+        let writes = Some((path.into(), before.into(), before.into()));
+        Job { writes, wanted: Vec::new(), said: Said::Unsaved(first), ..job }
+    };
+    match (&job.said, free) {
+        (Said::Line(_, Some(first)), _) => {
+            let first = first.clone();
+            unsaved(job, Some(first))
+        }
+        (_, false) => unsaved(job, None),
+        (_, true) => {
+            let name = if form == Form::New { "new" } else { "old" };
+            let line = format!("{path}: the {name} form of {from}\n").into_bytes();
+            // An image of zeros is converted, and it is told.
+            let blank = job.wanted.iter().all(|&b| b == 0);
+            let said = if blank { Said::Lines(1) } else { job.said };
+            Job { writes: Some((path.into(), before.into(), job.wanted)), wanted: line, said, ..job }
+        }
+    }
 }
 
 fn kind_of(seed: u64, kinds: &[&str]) -> usize {
@@ -353,17 +400,14 @@ impl Programs {
         let [saved_at, made_at] = [self.put("saved.img", &saved)?, self.put("made.img", &made)?];
         let [new_at, same_at] = [self.put("new.img", &old)?, self.put("same.img", &saved)?];
 
-        let job = |sort, task, told: &'static str, args: &[&str], input: &[u8], make: String| {
-            let (wanted, said) = handover_bytes(&rules, task, input);
-            let args = args.iter().map(|word| word.to_string()).collect();
-            let (refused, said) = (said.is_some(), Said::Line("handover", holds(&said)));
-            let (peer, file) = ("peer-handover", if input.is_empty() { "/dev/null" } else { "trace.in" });
-            let input = input.to_vec();
-            Job { sort, program, args, told, peer, input, wanted, said, refused, make, file, writes: None }
+        let job = |sort, task, told, args: &[&str], input: &[u8], make| {
+            job_hands(program, sort, task, (told, args), input, make)
         };
         let make_run = run.make.clone() + "  target/release/peer-handover save < trace.in > image.img\n";
         let make_second = format!("{make_run}  target/release/peer-gen {seed} onward image.img > trace.in\n");
         let make_made = format!("  target/release/peer-image-gen {seed} {} > image.img\n", IMAGE_KINDS[kind]);
+        let mut converts = self.of_forms(program, seed, &saved, &saved_at, &make_run)?;
+        converts.extend(self.of_forms(program, seed + 6, &made, &made_at, &make_made)?);
         let mut jobs = vec![
             job_saves(
                 job(Sort::Save, Task::Save, " save", &["save", &new_at], &run.trace, run.make.clone()),
@@ -394,6 +438,7 @@ impl Programs {
             ),
             job(Sort::Show(kind), Task::Show(&made), " show image.img", &["show", &made_at], b"", make_made),
         ];
+        jobs.extend(converts);
         if let Some(waves) = &self.waves {
             let (wanted, said) = waves_on_bytes(&rules, &saved, &second);
             jobs.push(Job {
@@ -414,6 +459,34 @@ impl Programs {
         Ok(jobs)
     }
 
+    /// Both conversions of an image. Where the converted one is to be stands an image of either form, nothing, what is
+    /// none, or the image itself, in turn.
+    fn of_forms<'a>(
+        &self,
+        program: &'a str,
+        turn: u64,
+        image: &[u8],
+        at: &str,
+        make: &str,
+    ) -> Result<Vec<Job<'a>>, Wrong> {
+        let rules = Rules::default();
+        let saved = handover_bytes(&rules, Task::Save, &session_s()).0;
+        let old = handover_bytes(&rules, Task::Convert(Form::Old, &saved), b"").0;
+        let before = [saved, old, Vec::new(), session_s(), image.to_vec()][(turn / 6 % 5) as usize].clone();
+        let mut jobs = Vec::new();
+        for (form, word, told, sort) in [
+            (Form::New, "new", " new image.img", Sort::ToNew),
+            (Form::Old, "old", " old image.img", Sort::ToOld),
+        ] {
+            let to = self.put("to.img", &before)?;
+            let from = if turn / 6 % 5 == 4 { &to[..] } else { at };
+            let task = Task::Convert(form, image);
+            let job = job_hands(program, sort, task, (told, &[word, &to, from]), b"", make.into());
+            jobs.push(job_converts(job, form, &to, from, &before));
+        }
+        Ok(jobs)
+    }
+
     /// Words that a program does not take: nothing is written, and one line says how it is used.
     fn of_bad_use(&self) -> Result<(), Wrong> {
         let extra = |program: &Option<String>, words: &[&str]| {
@@ -429,6 +502,9 @@ impl Programs {
             extra(&self.handover, &["load", "lesson.img"]),
             extra(&self.handover, &["save", "a.img", "b.img", "c.img"]),
             extra(&self.handover, &["resume", "a.img", "b.img"]),
+            extra(&self.handover, &["new"]),
+            extra(&self.handover, &["old", "a.img"]),
+            extra(&self.handover, &["new", "a.img", "b.img", "c.img"]),
         ];
         for (program, words) in uses.into_iter().flatten() {
             let ran = run(&program, &words, b"")
@@ -534,6 +610,10 @@ fn show(programs: &Programs, tallies: &Tallies) {
     ] {
         let t = of(sort);
         println!("{name:15} {:4} images equal, {} {what}", t.count, t.refused);
+    }
+    for (name, sort) in [("new TO FROM", Sort::ToNew), ("old TO FROM", Sort::ToOld)] {
+        let t = of(sort);
+        println!("{name:15} {:4} images equal, {} got 10, 11 or 12", t.count, t.refused);
     }
     let t = of(Sort::Resume);
     println!("{:15} {:4} traces {:10} rows  equal", "resume", t.count, t.lines);

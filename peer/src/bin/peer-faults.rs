@@ -1,11 +1,11 @@
 //! `peer-faults DATA`: which stored case each planted fault changes first, and how many, as tables: of rows, of the
 //! writer and the reader of dumps, of images, of the wall. `peer-faults --seeds SEED COUNT`: the same over the
-//! traces, dumps and images that `compare` would make. Status 1 if a fault changes nothing.
+//! traces, dumps and images that `compare` would make, each image converted both ways too. Status 1 if a fault changes nothing.
 use peer::damage::{dump, DUMP_KINDS};
 use peer::dump::{moments, sheet_bytes, waves_bytes, write};
 use peer::gen::{trace, KINDS};
-use peer::handover::{handover_bytes, shown_or_refused, Task};
-use peer::image::BYTES;
+use peer::handover::{converted_or_refused, handover_bytes, shown_or_refused, Task};
+use peer::image::Form;
 use peer::image_gen::{image, second_trace, IMAGE_KINDS};
 use peer::page::check;
 use peer::rules::{faults, image_faults, sheet_faults, unseen, unseen_in_images, wave_faults, Rules};
@@ -32,15 +32,33 @@ fn save(r: &Rules, trace: &[u8]) -> Vec<u8> {
     handover_bytes(r, Task::Save, trace).0
 }
 
-/// An image, and then a trace that goes on from it.
+/// An image and a trace in one: how long the image is, in four bytes, then both.
+fn joined(image: &[u8], trace: &[u8]) -> Vec<u8> {
+    [&(image.len() as u32).to_be_bytes(), image, trace].concat()
+}
+
+fn parted(both: &[u8]) -> (&[u8], &[u8]) {
+    let (length, both) = both.split_at(4);
+    both.split_at(length.iter().fold(0, |n, &b| n << 8 | usize::from(b)))
+}
+
+fn to_new(r: &Rules, image: &[u8]) -> Vec<u8> {
+    converted_or_refused(r, Form::New, image)
+}
+
+fn to_old(r: &Rules, image: &[u8]) -> Vec<u8> {
+    converted_or_refused(r, Form::Old, image)
+}
+
+/// A trace that goes on from an image.
 fn resume(r: &Rules, both: &[u8]) -> Vec<u8> {
-    let (image, trace) = both.split_at(BYTES.min(both.len()));
+    let (image, trace) = parted(both);
     handover_bytes(r, Task::Resume(image), trace).0
 }
 
 /// The same, and then the image that is saved of it.
 fn go_on(r: &Rules, both: &[u8]) -> Vec<u8> {
-    let (image, trace) = both.split_at(BYTES.min(both.len()));
+    let (image, trace) = parted(both);
     [resume(r, both), handover_bytes(r, Task::SaveFrom(image), trace).0].concat()
 }
 
@@ -132,27 +150,38 @@ fn dumps(traces: Vec<Vector>, sheets: Vec<Vector>) -> usize {
     wrong + of_writer + of_reader
 }
 
-/// Traces with their images, images and traces with what comes of them, images with their words.
+/// Traces with their images, images and traces with what comes of them, images with their words and in both forms.
 fn images(all: Data, resume: fn(&Rules, &[u8]) -> Vec<u8>) -> usize {
     let onwards =
-        all.onwards.into_iter().map(|(name, image, trace, rows)| (name, [image, trace].concat(), rows));
+        all.onwards.into_iter().map(|(name, image, trace, rows)| (name, joined(&image, &trace), rows));
+    let [new, old] = [Form::New, Form::Old].map(|form| {
+        let forms = all.forms.iter().map(|(name, image, new, old)| {
+            (name.clone(), image.clone(), if form == Form::New { new.clone() } else { old.clone() })
+        });
+        forms.collect::<Vec<Vector>>()
+    });
     let suites = [
         Suite { program: save, vectors: all.images },
         Suite { program: resume, vectors: onwards.collect() },
         Suite { program: shown_or_refused, vectors: all.words },
+        Suite { program: to_new, vectors: new },
+        Suite { program: to_old, vectors: old },
     ];
     let mut wrong: usize = suites.iter().map(Suite::wrong).sum();
-    let [saved, resumed, shown] = [0, 1, 2].map(|n| suites[n].vectors.len());
+    let [saved, resumed, shown, new, old] = [0, 1, 2, 3, 4].map(|n| suites[n].vectors.len());
     println!("\n## Faults of images\n");
-    println!("| fault | first changed | of {saved} saved | of {resumed} resumed | of {shown} shown |");
-    println!("|---|---|---|---|---|");
+    let of_forms = format!("of {new} to new | of {old} to old");
+    println!(
+        "| fault | first changed | of {saved} saved | of {resumed} resumed | of {shown} shown | {of_forms} |"
+    );
+    println!("|---|---|---|---|---|---|---|");
     let mut missed = 0;
     for (name, rules) in image_faults() {
-        let changed = [0, 1, 2].map(|n| suites[n].changed(&rules));
-        let [saved, resumed, shown] = changed.map(|c| c.map_or(0, |c| c.1));
+        let changed = [0, 1, 2, 3, 4].map(|n| suites[n].changed(&rules));
+        let [saved, resumed, shown, new, old] = changed.map(|c| c.map_or(0, |c| c.1));
         let first = changed.into_iter().flatten().next().map_or("**none**", |c| c.0);
-        println!("| {name} | {first} | {saved} | {resumed} | {shown} |");
-        missed += usize::from(saved + resumed + shown == 0);
+        println!("| {name} | {first} | {saved} | {resumed} | {shown} | {new} | {old} |");
+        missed += usize::from(saved + resumed + shown + new + old == 0);
     }
     let hidden: Vec<String> = unseen_in_images().into_iter().map(|f| f.0).collect();
     for (name, rules) in unseen_in_images() {
@@ -215,11 +244,13 @@ fn seeds(seeds: std::ops::Range<u64>) -> Data {
         let run = seeded(seed, save);
         let (name, saved) = (run.0.clone(), run.2.clone());
         let onward = second_trace(seed, &saved);
-        let wanted = go_on(&rules, &[&saved[..], &onward].concat());
+        let wanted = go_on(&rules, &joined(&saved, &onward));
         all.onwards.push((format!("{name}, resumed"), saved.clone(), onward, wanted));
         all.images.push(run);
         let kind = kind_of(seed, &IMAGE_KINDS);
         for (name, image) in [(name, saved), (format!("{kind} {seed}"), image(seed, kind).unwrap())] {
+            let [new, old] = [to_new(&rules, &image), to_old(&rules, &image)];
+            all.forms.push((name.clone(), image.clone(), new, old));
             let words = shown_or_refused(&rules, &image);
             all.words.push((name, image, words));
         }

@@ -1,7 +1,8 @@
-//! `handover` of request K3: `save [IMAGE]`, `resume IMAGE`, `show IMAGE`; `--fault NAME` before the word
-//! plants a fault, `--list-faults` lists them.
+//! `handover` of requests K3 and K6: `save [IMAGE]`, `resume IMAGE`, `show IMAGE`, `new IMAGE`, `old IMAGE`; `--fault
+//! NAME` before the word plants a fault, `--list-faults` lists them.
 use peer::cli::planted;
 use peer::handover::{handover, Task};
+use peer::image::Form;
 use peer::rules::{image_faults, Rules};
 use peer::trace::Stopped;
 use std::ffi::OsString;
@@ -24,14 +25,18 @@ fn run(rules: &Rules, args: &[OsString]) -> Result<(), String> {
     let word = args.first().and_then(|word| word.to_str());
     let bytes = match (word, &args[args.len().min(1)..]) {
         (Some("save"), []) => None,
-        (Some("save" | "resume" | "show"), [path]) => Some(image(path)?),
+        (Some("save" | "resume" | "show" | "new" | "old"), [path]) => Some(image(path)?),
         _ => {
-            return Err("use: save [IMAGE] <trace >image, resume IMAGE <trace >rows, or show IMAGE".into());
+            let uses =
+                "save [IMAGE] <trace >image, resume IMAGE <trace >rows, show IMAGE, new or old IMAGE >image";
+            return Err(format!("use: {uses}"));
         }
     };
     let task = match (word, &bytes) {
         (Some("resume"), Some(bytes)) => Task::Resume(bytes),
         (Some("show"), Some(bytes)) => Task::Show(bytes),
+        (Some("new"), Some(bytes)) => Task::Convert(Form::New, bytes),
+        (Some("old"), Some(bytes)) => Task::Convert(Form::Old, bytes),
         (_, Some(bytes)) => Task::SaveFrom(bytes),
         (_, None) => Task::Save,
     };

@@ -1,51 +1,30 @@
--- `image::find_fault` meets its contract: another length, an item out of its range, a rule broken, and nothing.
+-- `image::find_fault` meets its contract: what is no old image as it is, and an old one widened.
 -- Assumes nothing.
-use mathlib.Core.Path.{sym, ap, subst⁻¹, _∙_}
-use borrow.Author.Tests.{eq-eqb}
-use lib.Dec.{T}
-use Rattle.controller.specs.declared.State.{State}
-use Rattle.image.specs.declared.Fault.the-variants.{Item, Rule}
-use Rattle.image.specs.Rules.{rules}
-use Rattle.image.specs.Faults.{firstBroken}
-use Rattle.image.proofs.Faulty.{fits-ranged, fault-length, fault-item, fault-rule, fault-nothing}
+use Prim.Native.Nat.{ℕ}
+use native.Mathlib.Omega.{arith}
+use mathlib.Core.List.{List}
+use mathlib.Core.Logic._⊎_.{inl}
+use mathlib.Core.Path.{ap, _∙_}
+use Rattle.image.specs.Faults.{faultOf}
+use Rattle.image.proofs.EitherForm.{same-fault, fills}
 use borrow.Author.Needs.{needs}
 use Rattle.image.proofs.find_fault.Statement.{statement}
 use Rattle.image.proofs.find_fault.Tie as tie
 
 returns : tie.Need-returns
-returns c = sym (fault-length _ (c .if1 .taken))
+returns c = c .find-fault-new .ensures
 
-first-out-requires : tie.Need-first-out-requires
-first-out-requires c κs = search needs
+not-old : tie.Need-find-fault-new-requires-2
+not-old c κs = λ old. absurd (omega (arith, old))
 
 returns-2 : tie.Need-returns-2
 returns-2 c =
-    let found = c .before in
-    ap Item (found .first-out .ensures) ∙ sym (fault-item _ (found .before .if1 .left) (λ e. c .if2 .taken (found .first-out .ensures ∙ e)))
-
-state-in-requires : tie.Need-state-in-requires
-state-in-requires c κs =
-    let found = c .before in
-    subst⁻¹ T (fits-ranged _ (found .before .if1 .left) ∙ eq-eqb _ _ (sym (found .first-out .ensures) ∙ c .if2 .left)) tt
-
-first-broken-requires : tie.Need-first-broken-requires
-first-broken-requires c κs = search needs
-
-returns-3 : tie.Need-returns-3
-returns-3 c =
-    let searched = c .before in
-    let loaded = searched .before in
-    let found = loaded .before .before in
-    let told = searched .first-broken .ensures ∙ ap (λ (s : State). firstBroken (rules s)) (loaded .state-in .ensures) in
-    ap Rule told ∙ sym (fault-rule _ (found .before .if1 .left) (sym (found .first-out .ensures) ∙ loaded .before .if2 .left) (λ e. c .if3 .taken (told ∙ e)))
-
-returns-4 : tie.Need-returns-4
-returns-4 c =
-    let searched = c .before in
-    let loaded = searched .before in
-    let found = loaded .before .before in
-    let told = searched .first-broken .ensures ∙ ap (λ (s : State). firstBroken (rules s)) (loaded .state-in .ensures) in
-    sym (fault-nothing _ (found .before .if1 .left) (sym (found .first-out .ensures) ∙ loaded .before .if2 .left) (sym told ∙ c .if3 .left))
+    let put = c .before .before .before in
+    let a = put .before .before .before .before .args in
+    let old = put .before .before .if1 .left in
+    c .find-fault-new2 .ensures
+    ∙ ap faultOf (fills (a .image .now) old _ _ (put .put-new .ensures))
+    ∙ same-fault (a .image .now) (inl old)
 
 pub find-fault-spec : {M : Type 1} → statement M
-find-fault-spec = tie.close (tie.spec returns first-out-requires returns-2 state-in-requires first-broken-requires returns-3 returns-4)
+find-fault-spec = tie.close (tie.spec (λ c κs. c .if1 .taken) returns (λ c. search needs) (λ c κs. search needs) (λ c. search needs) not-old returns-2)

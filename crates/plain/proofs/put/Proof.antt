@@ -12,9 +12,9 @@ use Rattle.plain.proofs.put.Statement.{statement}
 use Rattle.plain.proofs.put.Tie as tie
 
 -- All lines stand in the array, and nothing else that is handed over.
-filled : {text after : List ℕ} {last : ℕ} → (length text ≤ 1375) × PutIfRoom (replicate 1375 0) 0 text after last
-    → (last ≤ 0 + 1375) × Put (replicate 1375 0) 0 text after last
-filled all = within (all .1) 1375 (all .0) (omega arith)
+filled : {text after : List ℕ} {last : ℕ} → (length text ≤ 2563) × PutIfRoom (replicate 2563 0) 0 text after last
+    → (last ≤ 0 + 2563) × Put (replicate 2563 0) 0 text after last
+filled all = within (all .1) 2563 (all .0) (omega arith)
 
 array-share-prefix-text : tie.Need-array-share-prefix-text
 array-share-prefix-text c = let all = c .before .before in omega (arith, filled (all .put-all .ensures) .0)

@@ -9,37 +9,36 @@ use lib.ListN.{drop, length-drop}
 use lib.Seq.{take-all, getD-take, getD-drop}
 use Rattle.image.specs.Xdr.{itemsIn}
 use Rattle.image.specs.Items.{firstOrder, coreWidth, sensorsTops, coreTops, tops, itemAt, stateIn}
-use Rattle.image.specs.Images.{loadedAt}
-use Rattle.image.proofs.Exact.{fits-in-range}
+use Rattle.image.proofs.Ranged.{within-up-to}
 use Rattle.image.proofs.Fours.{items-length}
 use borrow.Author.Needs.{needs}
 use Rattle.image.proofs.items.state_in.Statement.{statement}
 use Rattle.image.proofs.items.state_in.Tie as tie
 
 sensors-in-requires : tie.Need-sensors-in-requires
-sensors-in-requires c κs = fits-in-range _ (c .before .pre) .long
+sensors-in-requires c κs = c .before .pre .0
 
 slice-aggregate-items : tie.Need-slice-aggregate-items
 slice-aggregate-items c = search needs
 
 items-requires : tie.Need-items-requires
-items-requires c κs = omega (arith, fits-in-range _ (c .before .before .before .pre) .long)
+items-requires c κs = omega (arith, c .before .before .before .pre .0)
 
 core-in-requires : tie.Need-core-in-requires
 unfolding sensorsTops coreTops tops
 core-in-requires c κs =
     let start = c .before .before .before .before .before in
     let items = itemsIn (start .args .image .now) in
-    let few = fits-in-range _ (start .pre) .ranges (firstOrder + 13) (lit< tt) in
+    let few = within-up-to tops items (start .pre .1) (firstOrder + 13) (lit< tt) in
     let cause = getD-take coreWidth (drop firstOrder items) 13 0 (lit< tt) ∙ getD-drop firstOrder items 13 0 in
     subst⁻¹ (λ (core : List ℕ). itemAt core 13 < 256) (c .before .items2 .ensures) (omega (arith, cause, few))
 
 returns : tie.Need-returns
-unfolding stateIn loadedAt
+unfolding stateIn
 returns c =
     let start = c .before .before .before .before .before .before in
     let image = start .args .image .now in
-    let long = fits-in-range image (start .pre) .long in
+    let long = start .pre .0 in
     let core = drop firstOrder (itemsIn image) in
     let whole = take-all coreWidth core (simp length-drop (omega (arith, items-length image))) in
     rw (c .core-in .ensures, c .before .before .items2 .ensures, whole, c .before .before .before .before .sensors-in .ensures)

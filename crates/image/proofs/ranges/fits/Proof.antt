@@ -2,11 +2,9 @@
 -- Assumes nothing.
 use Prim.Native.Nat.{ℕ}
 use mathlib.Core.Path.{sym, ap, _∙_}
-use borrow.Author.Tests.{ne-eqb}
 use lib.Dec.{eqb}
 use Rattle.image.specs.Items.{itemCount}
-use Rattle.image.specs.Images.{fits}
-use Rattle.image.proofs.Faulty.{fits-ranged}
+use Rattle.image.proofs.Faulty.{fits-ranged, fits-not}
 use borrow.Author.Needs.{needs}
 use Rattle.image.proofs.ranges.fits.Statement.{statement}
 use Rattle.image.proofs.ranges.fits.Tie as tie
@@ -18,8 +16,7 @@ returns : tie.Need-returns
 returns c = ap (λ (k : ℕ). eqb k itemCount) (c .first-out .ensures) ∙ sym (fits-ranged _ (c .before .if1 .taken))
 
 returns-2 : tie.Need-returns-2
-unfolding fits
-returns-2 c = simp (ne-eqb _ _ (c .if1 .left))
+returns-2 c = sym (fits-not _ (c .before .before .pre) (c .if1 .left))
 
 pub fits-spec : {M : Type 1} → statement M
 fits-spec = tie.close (tie.spec first-out-requires returns returns-2)

@@ -7,6 +7,7 @@ use mathlib.Core.List.{List}
 use mathlib.Core.Path.{_≡_, ap, _∙_}
 use borrow.Author.Tests.{not-true, not-false}
 use lib.ListN.{length, getD, drop}
+use Rattle.image.specs.Rules.{ruleCount}
 use Rattle.image.specs.Faults.{firstBroken}
 use Rattle.image.proofs.Searching.{broken-turn, broken-end}
 use borrow.Author.Needs.{needs}
@@ -14,10 +15,10 @@ use Rattle.image.proofs.rules.first_broken.Statement.{statement}
 use Rattle.image.proofs.rules.first_broken.Tie as tie
 
 abbrev Inv-loop : tie.InvT-loop
-Inv-loop tests k₀ k = (k ≤ 7) × (firstBroken tests ≡ k + firstBroken (drop k tests))
+Inv-loop tests k₀ k = (k ≤ ruleCount) × (firstBroken tests ≡ k + firstBroken (drop k tests))
 
 abbrev μ-loop : tie.MeasureT-loop
-μ-loop tests k₀ k = 7 - k
+μ-loop tests k₀ k = ruleCount - k
 
 tests-requires : tie.Need-tests-requires Inv-loop μ-loop
 tests-requires c κs = search needs
@@ -40,7 +41,7 @@ returns : tie.Need-returns Inv-loop μ-loop
 returns c =
     let l = c .before .before .loop in
     let told = c .before .before .before in
-    let long : length (told .tests .result) ≡ 7 = search needs in
+    let long : length (told .tests .result) ≡ ruleCount = search needs in
     let here = broken (told .tests .result) (l .k) (omega (arith, long)) false (not-true _ (c .if1 .taken)) in
     let all : l .k ≡ firstBroken (told .tests .result) = omega (arith, l .inv .1, here) in
     all ∙ ap firstBroken (told .tests .ensures)
@@ -55,14 +56,14 @@ loop-again : tie.Need-loop-again Inv-loop μ-loop
 loop-again c =
     let l = c .before .before .loop in
     let told = c .before .before .before in
-    let long : length (told .tests .result) ≡ 7 = search needs in
+    let long : length (told .tests .result) ≡ ruleCount = search needs in
     (omega arith, omega (arith, l .inv .1, kept (told .tests .result) (l .k) (omega (arith, long)) false (not-false _ (c .if1 .left))))
 
 returns-2 : tie.Need-returns-2 Inv-loop μ-loop
 returns-2 c =
     let l = c .before .loop in
     let told = c .before .before in
-    let long : length (told .tests .result) ≡ 7 = search needs in
+    let long : length (told .tests .result) ≡ ruleCount = search needs in
     let all : l .k ≡ firstBroken (told .tests .result) = omega (arith, l .inv .1, broken-end (told .tests .result) (l .k) (omega (arith, long))) in
     all ∙ ap firstBroken (told .tests .ensures)
 

@@ -1,9 +1,9 @@
 -- `plain::parts::put_words` meets its contract: each by its place.
 -- Assumes nothing.
 use native.Mathlib.Omega.{arith}
-use Rattle.texts.proofs.Pieces.{nothing, same, put}
+use Rattle.texts.proofs.Pieces.{same, put}
 use Rattle.plain.specs.Parts.{ruleWords}
-use Rattle.plain.proofs.Named.{rule-of-order, past-rules}
+use Rattle.plain.proofs.Named.{rule-of-order}
 use borrow.Author.Needs.{needs}
 use Rattle.plain.proofs.parts.put_words.Statement.{statement}
 use Rattle.plain.proofs.parts.put_words.Tie as tie
@@ -64,10 +64,17 @@ returns-4 c =
     let word = c .before .before in
     rw (word .before .before .before .if4 .taken) (put (word .put3 .ensures))
 
+put-count-rule-requires : tie.Need-put-count-rule-requires
+put-count-rule-requires c κs =
+    let test = c .before in
+    omega (arith, test .if4 .left, test .before .if3 .left, test .before .before .if2 .left)
+
+same-length-5 : tie.Need-same-length-5
+same-length-5 c = search needs
+
 returns-5 : tie.Need-returns-5
-returns-5 c =
-    same (past-rules _ (omega (arith, c .if4 .left, c .before .if3 .left, c .before .before .if2 .left))) (nothing _ 0)
+returns-5 c = c .before .before .put-count-rule .ensures
 
 pub put-words-spec : {M : Type 1} → statement M
 put-words-spec =
-    tie.close (tie.spec slice-aggregate-put put-requires same-length returns put-on-rule-requires same-length-2 returns-2 slice-aggregate-put-2 put-requires-2 same-length-3 returns-3 slice-aggregate-put-3 put-requires-3 same-length-4 returns-4 returns-5)
+    tie.close (tie.spec slice-aggregate-put put-requires same-length returns put-on-rule-requires same-length-2 returns-2 slice-aggregate-put-2 put-requires-2 same-length-3 returns-3 slice-aggregate-put-3 put-requires-3 same-length-4 returns-4 put-count-rule-requires same-length-5 returns-5)

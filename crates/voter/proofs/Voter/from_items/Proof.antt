@@ -1,4 +1,4 @@
--- `voter::Voter::from_items` meets its contract: the channels by their number, and the value; no count runs.
+-- `voter::Voter::from_items` meets its contract: the channels by their number, the value, and two bytes.
 -- Assumes nothing.
 use Rattle.voter.specs.Items.{sensorIn}
 use borrow.Author.Needs.{needs}
@@ -11,15 +11,24 @@ array-read-channels-at c = search needs
 channels-at-requires : tie.Need-channels-at-requires
 channels-at-requires c κs = search needs
 
-array-read-uncounted : tie.Need-array-read-uncounted
-array-read-uncounted c = search needs
+array-read-t9 : tie.Need-array-read-t9
+array-read-t9 c = search needs
 
-uncounted-requires : tie.Need-uncounted-requires
-uncounted-requires c κs = search needs
+array-read-t13 : tie.Need-array-read-t13
+array-read-t13 c = search needs
+
+cast-t15 : tie.Need-cast-t15
+cast-t15 c = search needs
+
+array-read-t18 : tie.Need-array-read-t18
+array-read-t18 c = search needs
+
+cast-t20 : tie.Need-cast-t20
+cast-t20 c = search needs
 
 returns : tie.Need-returns
 unfolding sensorIn
-returns c = simp (c .uncounted .ensures, c .before .channels-at .ensures)
+returns c = simp (c .channels-at .ensures)
 
 pub from-items-spec : {M : Type 1} → statement M
 from-items-spec =
@@ -27,6 +36,9 @@ from-items-spec =
     (tie.spec
     array-read-channels-at
     channels-at-requires
-    array-read-uncounted
-    uncounted-requires
+    array-read-t9
+    array-read-t13
+    cast-t15
+    array-read-t18
+    cast-t20
     returns)

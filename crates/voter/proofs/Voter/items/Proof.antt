@@ -1,4 +1,4 @@
--- `voter::Voter::items` meets its contract: its number, and the value held.
+-- `voter::Voter::items` meets its contract: its number, the value held, odd channel and count.
 -- Assumes nothing.
 use Rattle.voter.specs.Voting.{valueOf}
 use Rattle.voter.specs.Items.{sensorItems}
@@ -13,9 +13,15 @@ number-requires c κs = search needs
 cast-t3 : tie.Need-cast-t3
 cast-t3 c = search needs
 
+cast-t4 : tie.Need-cast-t4
+cast-t4 c = search needs
+
+cast-t5 : tie.Need-cast-t5
+cast-t5 c = search needs
+
 returns : tie.Need-returns
 unfolding sensorItems valueOf
-returns c = simp (c .before .number .ensures, byte-is-bit)
+returns c = simp (c .before .before .before .number .ensures, byte-is-bit)
 
 pub items-spec : {M : Type 1} → statement M
-items-spec = tie.close (tie.spec number-requires cast-t3 returns)
+items-spec = tie.close (tie.spec number-requires cast-t3 cast-t4 cast-t5 returns)
