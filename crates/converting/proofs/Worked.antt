@@ -3,7 +3,7 @@
 use mathlib.Core.Path.{refl}
 use Rattle.common.specs.Case.{AllAsWanted}
 use Rattle.common.specs.Lists.{some, all}
-use Rattle.forms.specs.Forms.{sensorsWidened, widened, sensorsNarrowed, narrowed, inNewForm, inOldForm}
+use Rattle.forms.specs.Forms.{withZeros, sensorsWidened, widened, sensorsNarrowed, narrowed, inNewForm, inOldForm}
 use Rattle.voter.specs.Voting.{validChannels}
 use Rattle.voter.specs.Numbers.{numberOf, channelsAt}
 use Rattle.voter.specs.Counts.{oddWithCount, noOddOfTwo, noneOfInvalid}
@@ -27,7 +27,7 @@ unfolding
     sensorsTops coreTops tops within sensorsIn stateIn
     rules rulesHold movingHaveOpen
     some all validChannels oddWithCount noOddOfTwo noneOfInvalid
-    sensorsWidened widened sensorsNarrowed narrowed inNewForm inOldForm newItems
+    withZeros sensorsWidened widened sensorsNarrowed narrowed inNewForm inOldForm newItems
     fits loadedAt refusalOf
     handedOver toNewOf someCountRuns backRefusalOf toOldOf
     fresh oldFresh suspected doubted convertingCases

@@ -22,6 +22,7 @@ use Rattle.forms.specs.Forms.{
   newSize,
   HasForm,
   eightZeros,
+  withZeros,
   sensorsWidened,
   widened,
   sensorsNarrowed,
@@ -36,7 +37,7 @@ use Rattle.forms.specs.Forms.{
 
 pub sensors-widened-length : (more : ℕ) (bytes : List ℕ) → voterBytes * more ≤ length bytes
     → length (sensorsWidened more bytes) ≡ (voterBytes + countBytes) * more
-unfolding sensorsWidened
+unfolding withZeros sensorsWidened
 sensors-widened-length zero bytes h = refl
 sensors-widened-length (suc more) bytes h =
     let rest = sensors-widened-length more (drop voterBytes bytes) (simp length-drop (omega arith)) in
@@ -77,7 +78,7 @@ in-three n m bytes = ap (λ (l : List ℕ). l ++ drop (n + m) bytes) (sym (take-
 
 narrowed-of-widened : (more : ℕ) (bytes rest : List ℕ) → voterBytes * more ≤ length bytes
     → sensorsNarrowed more (sensorsWidened more bytes ++ rest) ≡ take (voterBytes * more) bytes
-unfolding sensorsWidened sensorsNarrowed
+unfolding withZeros sensorsWidened sensorsNarrowed
 narrowed-of-widened zero bytes rest h = refl
 narrowed-of-widened (suc more) bytes rest h =
     let one : List ℕ = take voterBytes bytes in
@@ -95,7 +96,7 @@ countIn i bytes = take countBytes (drop ((voterBytes + countBytes) * i + voterBy
 widened-of-narrowed : (more : ℕ) (bytes rest : List ℕ) → (voterBytes + countBytes) * more ≤ length bytes
     → ((i : ℕ) → i < more → countIn i bytes ≡ eightZeros)
     → sensorsWidened more (sensorsNarrowed more bytes ++ rest) ≡ take ((voterBytes + countBytes) * more) bytes
-unfolding sensorsWidened sensorsNarrowed countIn
+unfolding withZeros sensorsWidened sensorsNarrowed countIn
 widened-of-narrowed zero bytes rest h none = refl
 widened-of-narrowed (suc more) bytes rest h none =
     let one : List ℕ = take voterBytes bytes in
@@ -115,7 +116,7 @@ widened-of-narrowed (suc more) bytes rest h none =
 -- Behind each sensor's eight bytes, widened, eight zero bytes stand.
 none-in-widened : (more : ℕ) (bytes rest : List ℕ) → voterBytes * more ≤ length bytes
     → (i : ℕ) → i < more → countIn i (sensorsWidened more bytes ++ rest) ≡ eightZeros
-unfolding sensorsWidened countIn
+unfolding withZeros sensorsWidened countIn
 none-in-widened zero bytes rest h i less = absurd (omega arith)
 none-in-widened (suc more) bytes rest h zero less =
     let one : List ℕ = take voterBytes bytes in

@@ -7,20 +7,20 @@ use mathlib.Core.List.{List, [], _++_, append-assoc, append-nil}
 use mathlib.Core.Path.{_≡_, refl, sym, ap, _∙_}
 use lib.ListN.{length, take, drop, length-drop}
 use lib.Seq.{drop-drop, take-all}
-use Rattle.forms.specs.Forms.{stampBytes, sensors, voterBytes, countBytes, eightZeros, sensorsWidened, widened, sensorsNarrowed, narrowed}
+use Rattle.forms.specs.Forms.{stampBytes, sensors, voterBytes, countBytes, withZeros, sensorsWidened, widened, sensorsNarrowed, narrowed}
 
 widened-more : (more : ℕ) (bytes : List ℕ)
-    → sensorsWidened more bytes ++ (take voterBytes (drop (voterBytes * more) bytes) ++ eightZeros) ≡ sensorsWidened (suc more) bytes
+    → sensorsWidened more bytes ++ withZeros (take voterBytes (drop (voterBytes * more) bytes)) ≡ sensorsWidened (suc more) bytes
 unfolding sensorsWidened
-widened-more zero bytes = sym (append-nil (take voterBytes bytes ++ eightZeros))
+widened-more zero bytes = sym (append-nil (withZeros (take voterBytes bytes)))
 widened-more (suc more) bytes =
     let further : voterBytes + voterBytes * more ≡ voterBytes * suc more = omega arith in
     let place : drop (voterBytes * more) (drop voterBytes bytes) ≡ drop (voterBytes * suc more) bytes =
     drop-drop (voterBytes * more) voterBytes bytes ∙ ap (λ (n : ℕ). drop n bytes) further
     in
-    append-assoc (take voterBytes bytes ++ eightZeros) (sensorsWidened more (drop voterBytes bytes)) _
-    ∙ ap (λ (l : List ℕ). (take voterBytes bytes ++ eightZeros) ++ (sensorsWidened more (drop voterBytes bytes) ++ (take voterBytes l ++ eightZeros))) (sym place)
-    ∙ ap (λ (l : List ℕ). (take voterBytes bytes ++ eightZeros) ++ l) (widened-more more (drop voterBytes bytes))
+    append-assoc (withZeros (take voterBytes bytes)) (sensorsWidened more (drop voterBytes bytes)) _
+    ∙ ap (λ (l : List ℕ). withZeros (take voterBytes bytes) ++ (sensorsWidened more (drop voterBytes bytes) ++ withZeros (take voterBytes l))) (sym place)
+    ∙ ap (λ (l : List ℕ). withZeros (take voterBytes bytes) ++ l) (widened-more more (drop voterBytes bytes))
 
 narrowed-more : (more : ℕ) (bytes : List ℕ)
     → sensorsNarrowed more bytes ++ take voterBytes (drop ((voterBytes + countBytes) * more) bytes) ≡ sensorsNarrowed (suc more) bytes
@@ -65,7 +65,7 @@ module _ (i : ℕ) (image : List ℕ) where
   at width = stampBytes + width * i
 
   pub widened-turn :
-      sensorsWidened i (drop stampBytes image) ++ (take (at voterBytes + voterBytes - at voterBytes) (drop (at voterBytes) image) ++ eightZeros)
+      sensorsWidened i (drop stampBytes image) ++ withZeros (take (at voterBytes + voterBytes - at voterBytes) (drop (at voterBytes) image))
       ≡ sensorsWidened (i + 1) (drop stampBytes image)
   widened-turn =
       rw (cut (at voterBytes) voterBytes image, ← drop-drop (voterBytes * i) stampBytes image, add-one i) (widened-more i (drop stampBytes image))

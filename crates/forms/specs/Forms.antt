@@ -48,10 +48,14 @@ HasForm image = (length image ≡ oldSize) ⊎ (length image ≡ newSize)
 abbrev pub eightZeros : List ℕ
 eightZeros = replicate countBytes 0
 
--- So many sensors of the old form, each with eight zero bytes behind its eight.
+-- A sensor of the old form in the new one: eight zero bytes behind its eight.
+unfoldable pub withZeros : List ℕ → List ℕ
+withZeros voter = voter ++ eightZeros
+
+-- So many sensors, each of them so.
 unfoldable pub sensorsWidened : ℕ → List ℕ → List ℕ
 sensorsWidened zero bytes = []
-sensorsWidened (suc more) bytes = (take voterBytes bytes ++ eightZeros) ++ sensorsWidened more (drop voterBytes bytes)
+sensorsWidened (suc more) bytes = withZeros (take voterBytes bytes) ++ sensorsWidened more (drop voterBytes bytes)
 
 -- An old image, widened so.
 unfoldable pub widened : List ℕ → List ℕ

@@ -10,7 +10,7 @@ ghost use Rattle.forms.specs.Forms.{
   sensors,
   oldSize,
   newSize,
-  eightZeros,
+  withZeros,
   sensorsWidened,
   sensorsNarrowed,
   widened,
@@ -102,11 +102,18 @@ fn put_widened(out: &mut [u8], at: usize, old: &[u8]) -> usize
 
 // Puts eight bytes of a sensor, and eight zero bytes behind them.
 fn put_with_zeros(out: &mut [u8], at: usize, voter: &[u8]) -> usize
-    ensures { λ r. ⌜ PutIfRoom (now (out .entry)) at (now (voter .entry) ++ eightZeros) (now (out .exit)) r ⌝ }
+    ensures { λ r. ⌜ PutIfRoom (now (out .entry)) at (withZeros (now (voter .entry))) (now (out .exit)) r ⌝ }
 {
     let zeros = [0u8; COUNT];
-    let told = texts::put(out, at, voter);
-    texts::put(out, told, &zeros)
+    put_both(out, at, voter, &zeros)
+}
+
+// Puts some bytes, and others behind them.
+fn put_both(out: &mut [u8], at: usize, one: &[u8], other: &[u8]) -> usize
+    ensures { λ r. ⌜ PutIfRoom (now (out .entry)) at (now (one .entry) ++ now (other .entry)) (now (out .exit)) r ⌝ }
+{
+    let told = texts::put(out, at, one);
+    texts::put(out, told, other)
 }
 
 // Puts the sensors of a new image, each without the eight bytes behind its first eight.

@@ -13,7 +13,7 @@ use Rattle.common.specs.Lists.{Each}
 use Rattle.common.proofs.Each.{each-at-index, each-by-index, each-append, each-take, each-drop}
 use Rattle.texts.specs.Puts.{putOf}
 use Rattle.texts.proofs.Placing.{did-put, front-line}
-use Rattle.forms.specs.Forms.{stampBytes, sensors, voterBytes, oldSize, HasForm, eightZeros, sensorsWidened, widened, inNewForm}
+use Rattle.forms.specs.Forms.{stampBytes, sensors, voterBytes, oldSize, HasForm, eightZeros, withZeros, sensorsWidened, widened, inNewForm}
 use Rattle.forms.proofs.ThereAndBack.{new-stays, other-is-not-widened, new-form-length, stamp-in-new-form}
 use Rattle.controller.specs.declared.State.{State}
 use Rattle.image.specs.Xdr.{itemsIn}
@@ -99,7 +99,7 @@ zeros-are-bytes : Each (λ (n : ℕ). n < 256) eightZeros
 zeros-are-bytes = (lit< tt, (lit< tt, (lit< tt, (lit< tt, (lit< tt, (lit< tt, (lit< tt, (lit< tt, tt))))))))
 
 bytes-widened : (more : ℕ) (bytes : List ℕ) → Each (λ (n : ℕ). n < 256) bytes → Each (λ (n : ℕ). n < 256) (sensorsWidened more bytes)
-unfolding sensorsWidened
+unfolding withZeros sensorsWidened
 bytes-widened zero bytes each = tt
 bytes-widened (suc more) bytes each =
     let byte : ℕ → Type 0 = λ n. n < 256 in

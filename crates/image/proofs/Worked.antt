@@ -5,7 +5,7 @@ use mathlib.Core.Path.{_≡_, refl}
 use lib.ListN.{replicate}
 use Rattle.common.specs.Case.{AllAsWanted}
 use Rattle.common.specs.Lists.{all}
-use Rattle.forms.specs.Forms.{sensorsWidened, widened, inNewForm}
+use Rattle.forms.specs.Forms.{withZeros, sensorsWidened, widened, inNewForm}
 use Rattle.voter.specs.Voting.{validChannels}
 use Rattle.voter.specs.Numbers.{numberOf, channelsAt}
 use Rattle.voter.specs.Counts.{oddWithCount, noOddOfTwo, noneOfInvalid}
@@ -43,7 +43,7 @@ unfolding
     sensorsTops coreTops tops within sensorsIn stateIn
     rules rulesHold movingHaveOpen
     all validChannels oddWithCount noOddOfTwo noneOfInvalid
-    sensorsWidened widened inNewForm newItems
+    withZeros sensorsWidened widened inNewForm newItems
     imageOf fits loadedAt refusalOf
     fresh oldFresh opening extending imageCases
 as-worked = refl
