@@ -12,6 +12,7 @@ pub mod Mirrors
 pub mod Keeping
 pub mod Exact
 pub mod Uncounted
+pub mod OldForm
 pub mod RoundTrips
 pub mod Worked
 mod Once

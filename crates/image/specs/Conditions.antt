@@ -2,14 +2,15 @@
 -- orders that is on is wanted and has general_EV on, doors not CLOSED without a cause has general_EV on, and an invalid sensor has a
 -- cause." And request K6: "New rules beside K3's", for odd channel and count. Condition by condition, each over one state.
 -- Assumes nothing.
-use mathlib.Core.List.{List}
+use mathlib.Core.List.{List, [], _∷_, _++_}
 use mathlib.Core.Path.{_≡_}
-use Prim.Native.Nat.{ℕ, _≤_, _<_}
+use Prim.Native.Nat.{ℕ, zero, suc, _-_, _^_, _≤_, _<_}
 use lib.Dec.{T}
 use lib.ListN.{length}
 use Rattle.common.specs.Lists.{Each}
 use Rattle.voter.specs.Counts.{CountInRange, KeepsCountRules}
-use Rattle.forms.specs.Forms.{HasForm}
+use Rattle.voter.specs.Numbers.{lastNumber}
+use Rattle.forms.specs.Forms.{oldSize, HasForm}
 use Rattle.sequence.specs.declared.Doors.the-variants.{Closed}
 use Rattle.sequence.specs.Places.{movingHaveOpen}
 use Rattle.orders.specs.Timing.{oldest, wantedOf}
@@ -24,7 +25,8 @@ use Rattle.controller.specs.Shows.{
   red,
   invalidSensor,
 }
-use Rattle.image.specs.Items.{sensorCount, lastCause, tops, itemAt}
+use Rattle.image.specs.Xdr.{itemsIn}
+use Rattle.image.specs.Items.{sensorCount, lastCause, coreTops, tops, itemAt}
 use Rattle.image.specs.Images.{newItems, loadedAt}
 
 -- ---- Of the controller
@@ -110,6 +112,19 @@ AllBytes = AllBelow 256
 pub record InRange (image : List ℕ) : Type 0 where
   pub long : HasForm image
   pub ranges : (k : ℕ) → k < length tops → itemAt (newItems image) k ≤ itemAt tops k
+
+-- K3's ranges, of the 51 items of the old form: the stamp, per sensor its voter and held value, and the rest.
+unfoldable pub oldSensorsTops : ℕ → List ℕ
+oldSensorsTops zero = []
+oldSensorsTops (suc sensors) = lastNumber ∷ 1 ∷ oldSensorsTops sensors
+
+unfoldable pub oldTops : List ℕ
+oldTops = (2 ^ 32 - 1) ∷ (oldSensorsTops sensorCount ++ coreTops)
+
+-- As long as an old image is, and every item of its own in range.
+pub record OldInRange (image : List ℕ) : Type 0 where
+  pub long : length image ≡ oldSize
+  pub ranges : (k : ℕ) → k < length oldTops → itemAt (itemsIn image) k ≤ itemAt oldTops k
 
 -- An image that is taken, of either form.
 pub record Taken (image : List ℕ) : Type 0 where

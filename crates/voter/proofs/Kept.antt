@@ -133,6 +133,15 @@ uncounted-is-kept channels held =
           };
     }
 
+-- Where none runs the rules are kept, whichever channels are valid.
+pub none-keeps : (v : Voter) → NoCountRunsAt v → KeepsCountRules v
+none-keeps v none =
+    record {
+      allValid = λ all. (λ e. none .count, λ e. none .odd);
+      oneStruck = λ left. none .odd;
+      invalid = λ invalid. (none .odd, none .count);
+    }
+
 pub fresh-is-kept : (held : Bool) → CountKept (freshWith held)
 unfolding freshWith
 fresh-is-kept held = uncounted-is-kept All held
