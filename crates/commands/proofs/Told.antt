@@ -17,7 +17,7 @@ use Rattle.image.specs.declared.Fault.the-variants.{Nothing, Length, Item, Rule
 use Rattle.image.specs.Items.{itemCount}
 use Rattle.image.specs.Rules.{rules}
 use Rattle.image.specs.Images.{size}
-use Rattle.plain.specs.Parts.{twoEach, fourEach, sensorItems, orderItems, restNames, itemNames, ruleWords}
+use Rattle.plain.specs.Parts.{twoEach, sensorParts, fourEach, sensorItems, orderItems, restNames, itemNames, ruleWords}
 use Rattle.plain.proofs.Named.{item-length, rule-length}
 use Rattle.plain.proofs.Sizes.{number-length}
 use Rattle.commands.specs.declared.saving.Reason.{Reason}
@@ -26,7 +26,7 @@ use Rattle.commands.specs.Messages.{reasonWords, lengthWords, faultWords
 
 -- Each item of an image has a name ..
 pub items-named : length itemNames ≡ itemCount
-unfolding twoEach fourEach sensorNames orderNames sensorItems orderItems restNames itemNames
+unfolding twoEach sensorParts fourEach sensorNames orderNames sensorItems orderItems restNames itemNames
 items-named = refl
 
 -- .. and each rule has its words.

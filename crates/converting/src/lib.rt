@@ -54,7 +54,7 @@ fn some_count_runs(voters: [Voter; SENSORS]) -> bool
     let mut i = 0;
     while i < SENSORS {
         let v = voters[i];
-        seen = seen | v.count_runs();
+        seen = seen | sensors::count_runs(v);
         i += 1;
     }
     seen

@@ -4,7 +4,7 @@ use mathlib.Core.Path.{refl}
 use Rattle.common.specs.Ascii.{ended, joinedByCommas}
 use Rattle.common.specs.Case.{AllAsWanted}
 use Rattle.voter.specs.Numbers.{numberOf}
-use Rattle.voter.specs.Items.{sensorItems}
+use Rattle.sensors.specs.Items.{sensorItems}
 use Rattle.controller.specs.Start.{startedAt}
 use Rattle.controller.proofs.Computing.{rules}
 use Rattle.image.specs.Xdr.{fourBytes, bytesOf}

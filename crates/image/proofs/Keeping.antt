@@ -13,7 +13,7 @@ use Rattle.common.proofs.Tests.{then, so}
 use Rattle.common.proofs.Each.{each-so, each-of-both, all-each, each-all}
 use Rattle.voter.specs.declared.Voter.{Voter}
 use Rattle.voter.specs.Counts.{oddWithCount, noOddOfTwo, noneOfInvalid, KeepsCountRules}
-use Rattle.voter.proofs.Kept.{tests-keep-counts, keeps-odd-with-count, keeps-no-odd-of-two, keeps-none-of-invalid}
+use Rattle.sensors.proofs.Counting.{tests-keep-counts, keeps-odd-with-count, keeps-no-odd-of-two, keeps-none-of-invalid}
 use Rattle.sequence.specs.declared.Doors.{Doors}
 use Rattle.sequence.specs.declared.Doors.the-variants.{Closed, Opening, Open, Closing}
 use Rattle.orders.specs.declared.Wanted.{Wanted}

@@ -11,9 +11,8 @@ use mir.Facts.{and-yes}
 use Rattle.common.specs.Lists.{Each}
 use Rattle.voter.specs.declared.Voter.{Voter}
 use Rattle.voter.specs.Counts.{CountInRange}
-use Rattle.voter.specs.Items.{itemsPerSensor, sensorItems, sensorTops, sensorIn}
-use Rattle.voter.proofs.Mirrors.{one-of-bit, bit-of-one, as-many-items, sensor-mirror, items-mirror as sensor-items-mirror}
-use Rattle.voter.proofs.Kept.{in-range-counts}
+use Rattle.sensors.specs.Items.{itemsPerSensor, sensorItems, sensorTops, sensorIn}
+use Rattle.sensors.proofs.Mirrors.{one-of-bit, bit-of-one, as-many-items, sensor-mirror, in-range-counts, items-mirror as sensor-items-mirror}
 use Rattle.sequence.proofs.Numbering.{doors-at-number, gears-at-number, number-at-doors, number-at-gears}
 use Rattle.controller.specs.declared.Core.{Core}
 use Rattle.controller.specs.declared.State.{State}

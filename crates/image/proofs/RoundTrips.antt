@@ -18,8 +18,8 @@ use Rattle.forms.specs.Forms.{inNewForm}
 use Rattle.forms.proofs.ThereAndBack.{new-form-length}
 use Rattle.voter.specs.declared.Voter.{Voter}
 use Rattle.voter.specs.Counts.{CountInRange}
-use Rattle.voter.specs.Items.{sensorItems, sensorTops}
-use Rattle.voter.proofs.Mirrors.{bit-to-1, items-in-range}
+use Rattle.sensors.specs.Items.{sensorItems, sensorTops}
+use Rattle.sensors.proofs.Mirrors.{bit-to-1, items-in-range}
 use Rattle.sequence.specs.Numbers.{doorsNumber, gearsNumber, lastNumber as lastPlace}
 use Rattle.sequence.proofs.Numbering.{doors-to-3, gears-to-3}
 use Rattle.orders.specs.declared.Order.{Order}

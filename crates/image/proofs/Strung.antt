@@ -7,8 +7,8 @@ use mathlib.Core.Path.{_≡_, refl, sym, ap, _∙_}
 use lib.ListN.{length, getD, take, drop, length-append, List·getD-append}
 use lib.Seq.{getD-append-add, drop-drop}
 use Rattle.voter.specs.declared.Voter.{Voter}
-use Rattle.voter.specs.Items.{itemsPerSensor, sensorItems, sensorTops, sensorIn}
-use Rattle.voter.proofs.Mirrors.{as-many-items}
+use Rattle.sensors.specs.Items.{itemsPerSensor, sensorItems, sensorTops, sensorIn}
+use Rattle.sensors.proofs.Mirrors.{as-many-items}
 use Rattle.controller.specs.declared.State.{State}
 use Rattle.image.specs.Items.{
   sensorCount,

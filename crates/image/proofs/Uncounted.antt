@@ -16,7 +16,7 @@ use Rattle.forms.proofs.ThereAndBack.{old-is-widened, widened-length, none-coun
 use Rattle.voter.specs.declared.Voter.{Voter}
 use Rattle.voter.specs.Voting.{freshWith}
 use Rattle.voter.specs.Counts.{NoCountRunsAt}
-use Rattle.voter.specs.Items.{itemsPerSensor, sensorTops, sensorIn}
+use Rattle.sensors.specs.Items.{itemsPerSensor, sensorTops, sensorIn}
 use Rattle.image.specs.Xdr.{itemFrom, itemsIn}
 use Rattle.image.specs.Items.{sensorCount, tops, within, sensorsIn, itemAt, stateIn}
 use Rattle.image.specs.Images.{size, newItems, loadedAt}

@@ -9,7 +9,7 @@ use Rattle.forms.specs.Forms.{withZeros, sensorsWidened, widened, inNewForm}
 use Rattle.voter.specs.Voting.{validChannels}
 use Rattle.voter.specs.Numbers.{numberOf, channelsAt}
 use Rattle.voter.specs.Counts.{oddWithCount, noOddOfTwo, noneOfInvalid}
-use Rattle.voter.specs.Items.{sensorItems, sensorIn}
+use Rattle.sensors.specs.Items.{sensorItems, sensorIn}
 use Rattle.sequence.specs.Numbers.{doorsAt, gearsAt}
 use Rattle.controller.proofs.Computing.{rules as stepRules}
 use Rattle.sequence.specs.Places.{movingHaveOpen}

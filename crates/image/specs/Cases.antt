@@ -8,7 +8,7 @@ use lib.ListN.{length, take, drop, set, replicate}
 use Rattle.common.specs.Case.{Case}
 use Rattle.controller.specs.Votes.{analogicalSwitch, circuitPressurized}
 use Rattle.controller.specs.Start.{freshOf}
-use Rattle.voter.specs.Items.{itemsPerSensor}
+use Rattle.sensors.specs.Items.{itemsPerSensor}
 use Rattle.image.specs.Xdr.{bytesOf, itemsIn}
 use Rattle.image.specs.Items.{firstOrder, itemCount}
 use Rattle.image.specs.Images.{imageOf, loadedAt, refusalOf}

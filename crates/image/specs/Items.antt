@@ -1,5 +1,5 @@
 -- Requests K3 and K6: the controller as items of the new form, and the controller that items are of. Each is the mirror of the other. What a
--- sensor is as items is the voter's (`Rattle.voter.specs.Items`); here they are strung over the eighteen sensors.
+-- sensor is as items is `Rattle.sensors.specs.Items`; here they are strung over the eighteen sensors.
 -- Assumes nothing.
 use Prim.Native.Nat.{ℕ, zero, suc, _+_, _*_, _-_, _^_}
 use mathlib.Core.Bool.{Bool, true, false, _&&_}
@@ -8,7 +8,7 @@ use lib.Dec.{leb}
 use lib.ListN.{getD, take, drop}
 use Rattle.common.specs.Bits.{bit, isOne}
 use Rattle.voter.specs.declared.Voter.{Voter}
-use Rattle.voter.specs.Items.{itemsPerSensor, sensorItems, sensorTops, sensorIn}
+use Rattle.sensors.specs.Items.{itemsPerSensor, sensorItems, sensorTops, sensorIn}
 use Rattle.sequence.specs.Moves.{place}
 use Rattle.sequence.specs.Numbers.{doorsNumber, gearsNumber, doorsAt, gearsAt, lastNumber as lastPlace}
 use Rattle.orders.specs.declared.Order.{Order}

@@ -4,7 +4,7 @@ ghost use Prim.Native.Nat.{_+_, _*_, _≤_, _<_};
 ghost use lib.Dec.{T};
 ghost use lib.ListN.{length, take, drop};
 ghost use Rattle.texts.specs.Puts.{Put};
-ghost use Rattle.voter.specs.Items.{itemsPerSensor, sensorIn};
+ghost use Rattle.sensors.specs.Items.{itemsPerSensor, sensorIn};
 ghost use Rattle.image.specs.Xdr.{itemsIn};
 ghost use Rattle.image.specs.Items.{
   sensorCount,
@@ -74,9 +74,9 @@ fn item_of(stamp: u32, voters: [Voter; SENSORS], core: Core, k: usize) -> u32
     }
     if k < FIRST_ORDER {
         let at = k - 1;
-        let i = at / voter::ITEMS;
-        let j = at % voter::ITEMS;
-        let items = voters[i].items();
+        let i = at / sensors::ITEMS;
+        let j = at % sensors::ITEMS;
+        let items = sensors::items(voters[i]);
         return items[j];
     }
     let items = core_items(core);
@@ -130,9 +130,9 @@ fn sensor_at(image: &[u8], i: usize) -> Voter
     requires { ⌜ (i < sensorCount) × (length (now image) ≡ size) ⌝ }
     ensures { λ r. ⌜ r ≡ sensorIn (take itemsPerSensor (drop (1 + itemsPerSensor * i) (itemsIn (now (image .entry))))) ⌝ }
 {
-    let mut items = [0u32; voter::ITEMS];
-    xdr::items(image, 1 + voter::ITEMS * i, &mut items);
-    Voter::from_items(items)
+    let mut items = [0u32; sensors::ITEMS];
+    xdr::items(image, 1 + sensors::ITEMS * i, &mut items);
+    sensors::from_items(items)
 }
 
 // All but stamp and sensors, of their items, where the cause is no more than a byte.

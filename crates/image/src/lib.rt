@@ -26,7 +26,7 @@ pub const SIZE: usize = xdr::ITEM * ITEMS;
 const ITEMS: usize = FIRST_ORDER + CORE;
 
 // The place of the first order's items (`firstOrder`): before them stand the last stamp and the sensors' items.
-const FIRST_ORDER: usize = 1 + voter::ITEMS * SENSORS;
+const FIRST_ORDER: usize = 1 + sensors::ITEMS * SENSORS;
 
 // So many sensors (`sensorCount`).
 const SENSORS: usize = 18;

@@ -68,8 +68,8 @@ fn top(k: usize) -> u32
         return 4294967295;
     }
     if k < FIRST_ORDER {
-        let sensor = Voter::tops();
-        let j = (k - 1) % voter::ITEMS;
+        let sensor = sensors::tops();
+        let j = (k - 1) % sensors::ITEMS;
         return sensor[j];
     }
     let j = k - FIRST_ORDER;

@@ -14,7 +14,7 @@ use orders::Wanted;
 use voter::Voter;
 
 // There are so many rules.
-pub(crate) const RULES: usize = 7 + voter::RULES;
+pub(crate) const RULES: usize = 7 + sensors::RULES;
 
 // Whether every rule is kept.
 pub(crate) fn hold(state: State) -> bool
@@ -72,7 +72,7 @@ fn all_keep(voters: [Voter; SENSORS], k: usize) -> bool
     let mut kept = true;
     let mut i = 0;
     while i < SENSORS {
-        let rules = voters[i].count_rules();
+        let rules = sensors::count_rules(voters[i]);
         kept = kept & rules[k];
         i += 1;
     }

@@ -7,7 +7,7 @@ use Rattle.forms.specs.Forms.{inNewForm}
 use Rattle.voter.specs.Voting.{validChannels}
 use Rattle.voter.specs.Numbers.{channelsAt}
 use Rattle.voter.specs.Counts.{oddWithCount, noOddOfTwo, noneOfInvalid}
-use Rattle.voter.specs.Items.{sensorIn}
+use Rattle.sensors.specs.Items.{sensorIn}
 use Rattle.sequence.specs.Numbers.{doorsAt, gearsAt}
 use Rattle.sequence.specs.Places.{movingHaveOpen}
 use Rattle.controller.specs.declared.State.{State}

@@ -4,7 +4,6 @@ use mathlib.Core.Path.{refl}
 use Rattle.common.specs.Case.{AllAsWanted}
 use Rattle.voter.specs.Numbers.{numberOf}
 use Rattle.voter.specs.Cases.{shown, afterReadings, twice, afterP1, voterCases}
-use Rattle.voter.specs.Items.{sensorItems, sensorIn}
 use Rattle.voter.specs.Runs.{heardAll}
 use Rattle.laws.specs.Cases.{
   switchAfter,
@@ -31,7 +30,7 @@ use Rattle.controller.proofs.Computing.{rules}
 pub p1-to-p12 : AllAsWanted allCases
 unfolding
     rules
-    heardAll sensorItems sensorIn numberOf voterCases shown twice afterP1 afterReadings
+    heardAll numberOf voterCases shown twice afterP1 afterReadings
     after switchAfter twiceThenRefused bounceCases
     shownAnswer answeredOverTheRound answeredAfter nothingSeen stepFrom isOnAfter opensAtGeneral startsAtOpposite
     generalAtOthers causeAtOpen causeAtHandle doorsDown stepCases allCases

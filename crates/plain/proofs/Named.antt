@@ -8,7 +8,7 @@ use lib.ListN.{length, List·getD-append, List·getD-eq-default}
 use lib.Seq.{getD-append-add}
 use Rattle.names.specs.Words.{entry, sensorNames, orderNames}
 use Rattle.names.proofs.Lengths.{to-longest}
-use Rattle.plain.specs.Parts.{twoEach, fourEach, sensorItems, orderItems, restNames, itemNames, onRule, ruleWords}
+use Rattle.plain.specs.Parts.{twoEach, sensorParts, fourEach, sensorItems, orderItems, restNames, itemNames, onRule, ruleWords}
 
 -- ---- Two for each name
 
@@ -35,19 +35,18 @@ module _ (one other : List ℕ) where
 
 -- ---- Four for each name
 
-module _ (one two three four : List ℕ) where
-  pub of-four : (names : List (List ℕ)) (j : ℕ) → j < length (fourEach one two three four names)
-      → entry names (j / 4) ++ entry (one ∷ two ∷ three ∷ four ∷ []) (j % 4) ≡ entry (fourEach one two three four names) j
-  unfolding fourEach
-  of-four [] j h = absurd (omega arith)
-  of-four (name ∷ names) zero h = refl
-  of-four (name ∷ names) (suc zero) h = refl
-  of-four (name ∷ names) (suc (suc zero)) h = refl
-  of-four (name ∷ names) (suc (suc (suc zero))) h = refl
-  of-four (name ∷ names) (suc (suc (suc (suc j)))) h =
-      let quarter : suc (suc (suc (suc j))) / 4 ≡ suc (j / 4) = omega arith in
-      let rest : suc (suc (suc (suc j))) % 4 ≡ j % 4 = omega arith in
-      rw (quarter, rest) (of-four names j (omega arith))
+pub of-four : (names : List (List ℕ)) (j : ℕ) → j < length (fourEach names)
+    → entry names (j / 4) ++ entry sensorParts (j % 4) ≡ entry (fourEach names) j
+unfolding fourEach
+of-four [] j h = absurd (omega arith)
+of-four (name ∷ names) zero h = refl
+of-four (name ∷ names) (suc zero) h = refl
+of-four (name ∷ names) (suc (suc zero)) h = refl
+of-four (name ∷ names) (suc (suc (suc zero))) h = refl
+of-four (name ∷ names) (suc (suc (suc (suc j)))) h =
+    let quarter : suc (suc (suc (suc j))) / 4 ≡ suc (j / 4) = omega arith in
+    let rest : suc (suc (suc (suc j))) % 4 ≡ j % 4 = omega arith in
+    rw (quarter, rest) (of-four names j (omega arith))
 
 -- ---- Items
 
@@ -60,7 +59,7 @@ unfolding twoEach orderNames orderItems
 order-items = refl
 
 pub item-length : (k : ℕ) → length (entry itemNames k) ≤ 38
-unfolding twoEach fourEach sensorNames orderNames sensorItems orderItems restNames itemNames
+unfolding twoEach sensorParts fourEach sensorNames orderNames sensorItems orderItems restNames itemNames
 item-length k = to-longest itemNames k
 
 -- Behind the last stamp.

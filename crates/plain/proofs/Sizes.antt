@@ -17,7 +17,7 @@ use Rattle.controller.specs.declared.Core.{Core}
 use Rattle.controller.specs.declared.State.{State}
 use Rattle.names.specs.Words.{entry, sensorNames, generalName, closesName, opensName, retractsName, extendsName, causeWords}
 use Rattle.names.proofs.Lengths.{sensor-length, voter-length, cause-length, doors-length, gears-length}
-use Rattle.plain.specs.Plain.{line, inSamples, ofCount, inMs, onOrOff, ofSensor, ofOrder, ofCause, sensorLines, orderLines, placeLines, restLines, plainOf}
+use Rattle.plain.specs.Plain.{line, inSamples, ofOdd, ofCount, ofHeld, inMs, onOrOff, ofSensor, ofOrder, ofCause, sensorLines, orderLines, placeLines, restLines, plainOf}
 
 -- ---- What is said
 
@@ -62,7 +62,7 @@ samples-length n = by-test (eqb n 1) where
   by-test false = omega (arith, number-length n, length-append (decimal n) (ascii " samples"))
 
 count-length : (odd count : ℕ) → length (ofCount odd count) ≤ 66
-unfolding ofCount
+unfolding ofOdd ofCount
 count-length odd count = by-tests (eqb odd 0) (eqb count 0) where
   by-tests : (noOdd none : Bool)
       → length (cond noOdd (cond none [] (ascii ", the two differed in " ++ inSamples count)) (ascii ", channel " ++ decimal odd ++ ascii " odd in " ++ inSamples count)) ≤ 66
@@ -71,7 +71,7 @@ count-length odd count = by-tests (eqb odd 0) (eqb count 0) where
   by-tests false none = simp length-append (omega (arith, number-length odd, samples-length count))
 
 sensor-line : (k : ℕ) (v : Voter) → length (line (entry sensorNames k) (ofSensor v)) ≤ 120
-unfolding ofSensor
+unfolding ofHeld ofSensor
 sensor-line k v =
     rw (line-length (entry sensorNames k) (ofSensor v))
     (simp length-append (omega (arith, sensor-length k, voter-length (numberOf v), count-length (v .odd) (v .count))))

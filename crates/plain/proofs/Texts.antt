@@ -12,14 +12,11 @@ use Rattle.voter.specs.Numbers.{numberOf}
 use Rattle.sequence.specs.declared.Place.{Place}
 use Rattle.orders.specs.declared.Order.{Order}
 use Rattle.names.specs.Words.{entry, voterWords, doorsWord, gearsWord}
-use Rattle.plain.specs.Plain.{line, ofCount, ofSensor, inMs, onOrOff, ofOrder, placeLines}
+use Rattle.plain.specs.Plain.{line, heldLine, ofSensor, inMs, onOrOff, ofOrder, placeLines}
 
--- Voter, value and count, and the line's end.
-pub sensor-text : (name : List ℕ) (v : Voter)
-    → name ++ ascii ": " ++
-    (entry voterWords (numberOf v) ++ (ascii ", held " ++ (((digit0 + bit (valueOf v)) ∷ []) ++ (ofCount (v .odd) (v .count) ++ lf ∷ []))))
-    ≡ line name (ofSensor v)
-unfolding line ofSensor
+-- A sensor's voter, and what follows it in the line.
+pub sensor-text : (name : List ℕ) (v : Voter) → name ++ ascii ": " ++ (entry voterWords (numberOf v) ++ heldLine v) ≡ line name (ofSensor v)
+unfolding line heldLine ofSensor
 sensor-text name v = simp append-assoc
 
 -- A time, and the line's end.

@@ -3,22 +3,29 @@
 use Prim.Native.Nat.{ℕ}
 use mathlib.Core.List.{List, [], _∷_, _++_}
 use Rattle.common.specs.Ascii.{ascii}
-use Rattle.names.specs.Words.{sensorNames, orderNames, closesName, opensName, retractsName, extendsName}
+use Rattle.names.specs.Words.{entry, sensorNames, orderNames, closesName, opensName, retractsName, extendsName}
 
 -- Two items for each name: the name with the one behind it, and with the other.
 unfoldable pub twoEach : List ℕ → List ℕ → List (List ℕ) → List (List ℕ)
 twoEach one other [] = []
 twoEach one other (name ∷ names) = (name ++ one) ∷ (name ++ other) ∷ twoEach one other names
 
--- And four.
-unfoldable pub fourEach : List ℕ → List ℕ → List ℕ → List ℕ → List (List ℕ) → List (List ℕ)
-fourEach one two three four [] = []
-fourEach one two three four (name ∷ names) =
-    (name ++ one) ∷ (name ++ two) ∷ (name ++ three) ∷ (name ++ four) ∷ fourEach one two three four names
-
 -- "Per sensor its voter and held value", and behind them its odd channel and count.
+unfoldable pub sensorParts : List (List ℕ)
+sensorParts = ascii ": voter" ∷ ascii ": held value" ∷ ascii ": odd channel" ∷ ascii ": count" ∷ []
+
+-- These for each name.
+unfoldable pub fourEach : List (List ℕ) → List (List ℕ)
+fourEach [] = []
+fourEach (name ∷ names) =
+    (name ++ entry sensorParts 0) ∷
+    (name ++ entry sensorParts 1) ∷
+    (name ++ entry sensorParts 2) ∷
+    (name ++ entry sensorParts 3) ∷
+    fourEach names
+
 unfoldable pub sensorItems : List (List ℕ)
-sensorItems = fourEach (ascii ": voter") (ascii ": held value") (ascii ": odd channel") (ascii ": count") sensorNames
+sensorItems = fourEach sensorNames
 
 -- "Per order, as in the output row, on and age".
 unfoldable pub orderItems : List (List ℕ)

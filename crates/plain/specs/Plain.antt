@@ -42,15 +42,22 @@ unfoldable pub inSamples : ℕ → List ℕ
 inSamples n = decimal n ++ cond (eqb n 1) (ascii " sample") (ascii " samples")
 
 -- What stands against a channel or, with two valid, against both: the odd channel and the count. Nothing where both are 0.
+unfoldable pub ofOdd : ℕ → ℕ → List ℕ
+ofOdd odd count = ascii ", channel " ++ decimal odd ++ ascii " odd in " ++ inSamples count
+
 unfoldable pub ofCount : ℕ → ℕ → List ℕ
-ofCount odd count =
-    cond (eqb odd 0)
-    (cond (eqb count 0) [] (ascii ", the two differed in " ++ inSamples count))
-    (ascii ", channel " ++ decimal odd ++ ascii " odd in " ++ inSamples count)
+ofCount odd count = cond (eqb odd 0) (cond (eqb count 0) [] (ascii ", the two differed in " ++ inSamples count)) (ofOdd odd count)
 
 -- A sensor: its voter and held value, and what stands against a channel.
+unfoldable pub ofHeld : Voter → List ℕ
+ofHeld v = ascii ", held " ++ (digit0 + bit (valueOf v)) ∷ []
+
 unfoldable pub ofSensor : Voter → List ℕ
-ofSensor v = entry voterWords (numberOf v) ++ ascii ", held " ++ ((digit0 + bit (valueOf v)) ∷ []) ++ ofCount (v .odd) (v .count)
+ofSensor v = entry voterWords (numberOf v) ++ ofHeld v ++ ofCount (v .odd) (v .count)
+
+-- What follows the voter in its line, with the LF.
+unfoldable pub heldLine : Voter → List ℕ
+heldLine v = ofHeld v ++ ofCount (v .odd) (v .count) ++ lf ∷ []
 
 -- A time in ms.
 unfoldable pub inMs : ℕ → List ℕ

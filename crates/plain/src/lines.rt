@@ -10,7 +10,9 @@ ghost use Rattle.texts.specs.Puts.{PutIfRoom, putOf};
 ghost use Rattle.plain.specs.Plain.{
   line,
   inSamples,
+  ofOdd,
   ofCount,
+  heldLine,
   ofSensor,
   onOrOff,
   ofOrder,
@@ -60,13 +62,28 @@ fn put_sensors(text: &mut [u8], at: usize, voters: [Voter; 18]) -> usize
 fn sensor_line(text: &mut [u8], at: usize, k: usize, v: Voter) -> usize
     ensures { λ r. ⌜ PutIfRoom (now (text .entry)) at (line (entry sensorNames k) (ofSensor v)) (now (text .exit)) r ⌝ }
 {
-    let value = [texts::on_off(v.value())];
     let named = names::put_sensor(text, at, k);
     let told = texts::put(text, named, b": ");
     let voter = names::put_voter(text, told, v.number() as usize);
-    let held = texts::put(text, voter, b", held ");
-    let valued = texts::put(text, held, &value);
-    let counted = put_count(text, valued, v.odd, v.count);
+    put_held(text, voter, v)
+}
+
+// Puts the rest of a sensor's line, behind its voter.
+fn put_held(text: &mut [u8], at: usize, v: Voter) -> usize
+    ensures { λ r. ⌜ PutIfRoom (now (text .entry)) at (heldLine v) (now (text .exit)) r ⌝ }
+{
+    let value = [
+        b',',
+        b' ',
+        b'h',
+        b'e',
+        b'l',
+        b'd',
+        b' ',
+        texts::on_off(v.value()),
+    ];
+    let held = texts::put(text, at, &value);
+    let counted = put_count(text, held, v.odd, v.count);
     texts::put(text, counted, b"\n")
 }
 
@@ -75,16 +92,23 @@ fn put_count(text: &mut [u8], at: usize, odd: u8, count: u8) -> usize
     ensures { λ r. ⌜ PutIfRoom (now (text .entry)) at (ofCount odd count) (now (text .exit)) r ⌝ }
 {
     if odd != 0 {
-        let told = texts::put(text, at, b", channel ");
-        let numbered = texts::put_number(text, told, odd as u64);
-        let next = texts::put(text, numbered, b" odd in ");
-        return put_samples(text, next, count);
+        return put_odd(text, at, odd, count);
     }
     if count == 0 {
         return at;
     }
     let told = texts::put(text, at, b", the two differed in ");
     put_samples(text, told, count)
+}
+
+// Puts that a channel was odd, and in how many samples.
+fn put_odd(text: &mut [u8], at: usize, odd: u8, count: u8) -> usize
+    ensures { λ r. ⌜ PutIfRoom (now (text .entry)) at (ofOdd odd count) (now (text .exit)) r ⌝ }
+{
+    let told = texts::put(text, at, b", channel ");
+    let numbered = texts::put_number(text, told, odd as u64);
+    let next = texts::put(text, numbered, b" odd in ");
+    put_samples(text, next, count)
 }
 
 // Puts so many samples.

@@ -3,10 +3,10 @@ ghost use Prim.Native.Nat.{_<_, _≤_};
 ghost use lib.ListN.{length};
 ghost use Rattle.names.specs.Words.{entry, orderNames};
 ghost use Rattle.texts.specs.Puts.{PutIfRoom};
-ghost use Rattle.plain.specs.Parts.{sensorItems, orderItems, restNames, itemNames, onRule, ruleWords};
+ghost use Rattle.plain.specs.Parts.{sensorParts, sensorItems, orderItems, restNames, itemNames, onRule, ruleWords};
 
 // The place of the first order's items: before them stand the last stamp and the items of the sensors.
-const FIRST_ORDER: usize = 1 + voter::ITEMS * names::SENSORS;
+const FIRST_ORDER: usize = 1 + sensors::ITEMS * names::SENSORS;
 
 // The place of the items behind those of the orders, of which each has two.
 const REST: usize = FIRST_ORDER + 2 * names::ORDERS;
@@ -80,18 +80,25 @@ fn put_of_sensor(text: &mut [u8], j: usize) -> usize
     requires { ⌜ j < length sensorItems ⌝ }
     ensures { λ r. ⌜ PutIfRoom (now (text .entry)) 0 (entry sensorItems j) (now (text .exit)) r ⌝ }
 {
-    let named = names::put_sensor(text, 0, j / voter::ITEMS);
-    let k = j % voter::ITEMS;
+    let named = names::put_sensor(text, 0, j / sensors::ITEMS);
+    put_sensor_part(text, named, j % sensors::ITEMS)
+}
+
+// Puts which item of a sensor it is.
+fn put_sensor_part(text: &mut [u8], at: usize, k: usize) -> usize
+    requires { ⌜ k < 4 ⌝ }
+    ensures { λ r. ⌜ PutIfRoom (now (text .entry)) at (entry sensorParts k) (now (text .exit)) r ⌝ }
+{
     if k == 0 {
-        return texts::put(text, named, b": voter");
+        return texts::put(text, at, b": voter");
     }
     if k == 1 {
-        return texts::put(text, named, b": held value");
+        return texts::put(text, at, b": held value");
     }
     if k == 2 {
-        return texts::put(text, named, b": odd channel");
+        return texts::put(text, at, b": odd channel");
     }
-    texts::put(text, named, b": count")
+    texts::put(text, at, b": count")
 }
 
 // Puts the name of item j of those of the orders.

@@ -8,5 +8,4 @@ pub mod Splits
 pub mod Bounces
 pub mod Kept
 pub mod Numbering
-pub mod Mirrors
 pub mod Once

@@ -12,16 +12,8 @@ use Rattle.voter.proofs.Voter.invalid.Kinds as invalid-kinds
 use Rattle.voter.proofs.Voter.invalid.Reads as invalid-reads
 use Rattle.voter.proofs.Voter.number.Kinds as number-kinds
 use Rattle.voter.proofs.Voter.number.Reads as number-reads
-use Rattle.voter.proofs.Voter.items.Kinds as items-kinds
-use Rattle.voter.proofs.Voter.items.Reads as items-reads
-use Rattle.voter.proofs.Voter.tops.Kinds as tops-kinds
-use Rattle.voter.proofs.Voter.tops.Reads as tops-reads
-use Rattle.voter.proofs.Voter.from_items.Kinds as from-items-kinds
-use Rattle.voter.proofs.Voter.from_items.Reads as from-items-reads
-use Rattle.voter.proofs.Voter.count_rules.Kinds as count-rules-kinds
-use Rattle.voter.proofs.Voter.count_rules.Reads as count-rules-reads
-use Rattle.voter.proofs.Voter.count_runs.Kinds as count-runs-kinds
-use Rattle.voter.proofs.Voter.count_runs.Reads as count-runs-reads
+use Rattle.voter.proofs.Channels.numbered.Kinds as numbered-kinds
+use Rattle.voter.proofs.Channels.numbered.Reads as numbered-reads
 
 pub fresh-once : OneAnswer 0 fresh-kinds.ps fresh-kinds.r fresh-reads.Post
 fresh-once κs a x y s t p q = p ∙ sym q
@@ -38,17 +30,5 @@ invalid-once κs a x y s t p q = p ∙ sym q
 pub number-once : OneAnswer 0 number-kinds.ps number-kinds.r number-reads.Post
 number-once κs a x y s t p q = p ∙ sym q
 
-pub items-once : OneAnswer 0 items-kinds.ps items-kinds.r items-reads.Post
-items-once κs a x y s t p q = p ∙ sym q
-
-pub tops-once : OneAnswer 0 tops-kinds.ps tops-kinds.r tops-reads.Post
-tops-once κs a x y s t p q = p ∙ sym q
-
-pub from-items-once : OneAnswer 0 from-items-kinds.ps from-items-kinds.r from-items-reads.Post
-from-items-once κs a x y s t p q = p ∙ sym q
-
-pub count-rules-once : OneAnswer 0 count-rules-kinds.ps count-rules-kinds.r count-rules-reads.Post
-count-rules-once κs a x y s t p q = p ∙ sym q
-
-pub count-runs-once : OneAnswer 0 count-runs-kinds.ps count-runs-kinds.r count-runs-reads.Post
-count-runs-once κs a x y s t p q = p ∙ sym q
+pub numbered-once : OneAnswer 0 numbered-kinds.ps numbered-kinds.r numbered-reads.Post
+numbered-once κs a x y s t p q = p ∙ sym q

@@ -1,5 +1,5 @@
 -- Document 01, "Both sides of each threshold": P1 to P3 as request K5 changes them, and what stands beside them in the request, worked
--- over the rule; and a sensor as items, by request K6.
+-- over the rule.
 -- Assumes nothing.
 use Prim.Native.Nat.{ℕ}
 use Prim.Native.String.{String}
@@ -9,7 +9,6 @@ use Rattle.common.specs.Bits.{bit}
 use Rattle.common.specs.Case.{Case}
 use Rattle.voter.specs.Voting.{freshWith, valueOf}
 use Rattle.voter.specs.Numbers.{numberOf}
-use Rattle.voter.specs.Items.{sensorItems, sensorIn}
 use Rattle.voter.specs.Runs.{Reading, says, heardAll}
 use Rattle.voter.specs.declared.Voter.{Voter}
 
@@ -48,7 +47,4 @@ voterCases =
     afterReadings "agreement of two sets the count to 0" (afterP1 ++ says 1 0 0 ∷ says 1 0 0 ∷ says 0 0 1 ∷ []) (0 ∷ 3 ∷ 0 ∷ 0 ∷ []) ∷
     afterReadings "after it they start again" (afterP1 ++ says 1 0 0 ∷ says 1 0 0 ∷ says 0 0 1 ∷ says 1 0 1 ∷ []) (0 ∷ 3 ∷ 0 ∷ 1 ∷ []) ∷
     afterReadings "in which way they differ makes no difference" (afterP1 ++ says 1 0 1 ∷ says 0 1 1 ∷ says 1 0 0 ∷ []) (1 ∷ 4 ∷ 0 ∷ 0 ∷ []) ∷
-    -- request K6: the count is handed over
-    record { name = "a sensor's items"; gives = sensorItems (heardAll (freshWith false) twice); wanted = 0 ∷ 1 ∷ 3 ∷ 2 ∷ [] } ∷
-    record { name = "a sensor back from its items"; gives = shown (sensorIn (0 ∷ 1 ∷ 3 ∷ 2 ∷ [])); wanted = 1 ∷ 0 ∷ 3 ∷ 2 ∷ [] } ∷
     []

@@ -1,20 +1,13 @@
 // One sensor of the rig with its three channels: which of them still count, the value held, and how often in a row a channel was odd.
-// The rule is specs/Voting.antt (document 01, "Voting"; request K5), and what a sensor is in an image is specs/Items.antt (requests K3 and
-// K6), with what its odd channel and count keep to there in specs/Counts.antt (request K6).
+// The rule is specs/Voting.antt (document 01, "Voting"; request K5); what odd channel and count keep to is specs/Counts.antt (request K6). What a
+// sensor is in an image is the crate `sensors`.
 // The layers above lean on what stands here as a promise, and on nothing else of a voter.
 ghost use mathlib.Core.Path.{_≡_};
 ghost use Rattle.voter.specs.Voting.{uncounted, voted, freshWith, valueOf, isInvalid};
 
-mod count_rules;
-mod items;
+mod numbers;
 mod of_three;
 mod of_two;
-
-// A sensor is so many items of an image (`itemsPerSensor` of specs/Items.antt).
-pub const ITEMS: usize = 4;
-
-// There are so many rules of odd channel and count (`countRules` of specs/Counts.antt).
-pub const RULES: usize = 3;
 
 // This many samples in a row are too many (`third` of specs/Voting.antt).
 const THIRD: u8 = 3;

@@ -6,7 +6,6 @@ ghost use Rattle.voter.specs.declared.Channels.the-variants.{All};
 use crate::Channels;
 use crate::THIRD;
 use crate::Voter;
-use crate::items;
 
 // A vote of a sensor whose channels are all valid.
 pub(crate) fn vote(v: Voter, one: bool, two: bool, three: bool) -> Voter
@@ -28,7 +27,7 @@ fn by_odd(v: Voter, odd: u8, value: bool) -> Voter
     if v.count < THIRD - 1 {
         return all_valid(value, odd, v.count + 1);
     }
-    Voter::uncounted(items::channels_at(odd as u32), value)
+    Voter::uncounted(Channels::numbered(odd as u32), value)
 }
 
 // All channels stay valid, with this odd one and this count.

@@ -1,6 +1,6 @@
 -- `image::items::core_items` meets its contract: one item after the other.
 -- Assumes nothing.
-use Rattle.voter.proofs.Mirrors.{byte-is-bit}
+use Rattle.sensors.proofs.Mirrors.{byte-is-bit}
 use Rattle.image.specs.Items.{orderItems, ordersItems, restItems, coreItems}
 use borrow.Author.Needs.{needs}
 use Rattle.image.proofs.items.core_items.Statement.{statement}

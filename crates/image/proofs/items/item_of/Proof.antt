@@ -5,7 +5,7 @@ use native.Mathlib.Omega.{arith}
 use mathlib.Core.List.{List}
 use mathlib.Core.Path.{_≡_, ap, _∙_}
 use lib.ListN.{length, getD}
-use Rattle.voter.specs.Items.{itemsPerSensor}
+use Rattle.sensors.specs.Items.{itemsPerSensor}
 use Rattle.image.specs.Items.{sensorCount, firstOrder, stateOf, itemsOf}
 use Rattle.image.proofs.Strung.{sensor-item, core-item}
 use borrow.Author.Needs.{needs}

@@ -1,7 +1,7 @@
 -- `image::items::sensor_at` meets its contract: the sensor of its items.
 -- Assumes nothing.
 use mathlib.Core.Path.{ap, _∙_}
-use Rattle.voter.specs.Items.{sensorIn}
+use Rattle.sensors.specs.Items.{sensorIn}
 use borrow.Author.Needs.{needs}
 use Rattle.image.proofs.items.sensor_at.Statement.{statement}
 use Rattle.image.proofs.items.sensor_at.Tie as tie

@@ -9,7 +9,7 @@ use lib.ListN.{length, take, drop, replicate}
 use lib.Seq.{paste, paste-zero, drop-drop}
 use Rattle.voter.specs.declared.Voter.{Voter}
 use Rattle.voter.specs.Voting.{freshWith}
-use Rattle.voter.specs.Items.{itemsPerSensor, sensorIn}
+use Rattle.sensors.specs.Items.{itemsPerSensor, sensorIn}
 use Rattle.image.specs.Xdr.{itemsIn}
 use Rattle.image.specs.Items.{sensorCount, sensorsIn}
 use Rattle.image.proofs.Strung.{sensors-length, strung-sensor}

@@ -5,7 +5,7 @@ use native.Mathlib.Omega.{arith}
 use mathlib.Core.List.{List}
 use mathlib.Core.Path.{ap, _∙_}
 use lib.ListN.{getD}
-use Rattle.voter.specs.Items.{itemsPerSensor}
+use Rattle.sensors.specs.Items.{itemsPerSensor}
 use Rattle.image.specs.Items.{coreTops, tops}
 use Rattle.image.proofs.Strung.{sensor-top, core-top}
 use borrow.Author.Needs.{needs}

@@ -1,8 +1,7 @@
 -- `plain::lines::put_count` meets its contract: an odd channel, nothing, and two that differed.
 -- Assumes nothing.
-use mathlib.Core.List.{append-assoc}
 use borrow.Author.Tests.{eq-eqb, ne-eqb}
-use Rattle.texts.proofs.Pieces.{nothing, same, put, and}
+use Rattle.texts.proofs.Pieces.{nothing, put, and}
 use Rattle.plain.specs.Plain.{ofCount}
 use borrow.Author.Needs.{needs}
 use Rattle.plain.proofs.lines.put_count.Statement.{statement}
@@ -11,12 +10,8 @@ use Rattle.plain.proofs.lines.put_count.Tie as tie
 returns : tie.Need-returns
 unfolding ofCount
 returns c =
-    let count = c .before .before in
-    let told = count .before .before .before .before in
-    let number = told .before .before .before .before .before in
-    let channel = number .before .before .before .before in
-    rw (ne-eqb _ 0 (channel .before .before .before .if1 .taken))
-    (and (and (and (put (channel .put .ensures)) (put (number .put-number .ensures))) (put (told .put2 .ensures))) (count .put-samples .ensures))
+    let odd = c .before .before in
+    rw (ne-eqb _ 0 (odd .before .before .if1 .taken)) (odd .put-odd .ensures)
 
 returns-2 : tie.Need-returns-2
 unfolding ofCount
@@ -28,7 +23,7 @@ returns-3 c =
     let count = c .before .before in
     let told = count .before .before .before .before in
     let test = told .before .before .before in
-    rw (eq-eqb _ 0 (test .before .if1 .left), ne-eqb _ 0 (test .if2 .left)) (and (put (told .put3 .ensures)) (count .put-samples2 .ensures))
+    rw (eq-eqb _ 0 (test .before .if1 .left), ne-eqb _ 0 (test .if2 .left)) (and (put (told .put .ensures)) (count .put-samples .ensures))
 
 pub put-count-spec : {M : Type 1} → statement M
-put-count-spec = tie.close (tie.spec (λ c. search needs) (λ c κs. search needs) (λ c κs. search needs) (λ c. search needs) (λ c κs. search needs) (λ c κs. search needs) (λ c. search needs) returns returns-2 (λ c. search needs) (λ c κs. search needs) (λ c κs. search needs) (λ c. search needs) returns-3)
+put-count-spec = tie.close (tie.spec (λ c κs. search needs) (λ c. search needs) returns returns-2 (λ c. search needs) (λ c κs. search needs) (λ c κs. search needs) (λ c. search needs) returns-3)

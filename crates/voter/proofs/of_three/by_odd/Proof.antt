@@ -41,8 +41,8 @@ returns-3 c =
       ne-eqb _ 0 (c .before .before .before .before .before .before .if1 .left),
     )
 
-channels-at-requires : tie.Need-channels-at-requires
-channels-at-requires c κs = search needs
+numbered-requires : tie.Need-numbered-requires
+numbered-requires c κs = search needs
 
 uncounted-requires : tie.Need-uncounted-requires
 uncounted-requires c κs = search needs
@@ -52,7 +52,7 @@ unfolding byOdd
 returns-4 c =
     simp (
       c .uncounted .ensures,
-      c .before .channels-at .ensures,
+      c .before .numbered .ensures,
       at-the-third _ (c .before .before .if3 .left),
       eq-eqb _ _ (c .before .before .before .before .if2 .left),
       ne-eqb _ 0 (c .before .before .before .before .before .before .if1 .left),
@@ -70,6 +70,6 @@ by-odd-spec =
     add-all-valid
     all-valid-requires-3
     returns-3
-    channels-at-requires
+    numbered-requires
     uncounted-requires
     returns-4)

@@ -11,12 +11,12 @@ use lib.Dec.{lit≤, lit<}
 use lib.ListN.{length, getD}
 use mir.Val.{boolByte}
 use Rattle.common.specs.Bits.{bit, isOne}
 use Rattle.voter.specs.Voting.{valueOf}
 use Rattle.voter.specs.Numbers.{numberOf}
 use Rattle.voter.specs.Counts.{CountInRange}
-use Rattle.voter.specs.Items.{itemsPerSensor, sensorItems, sensorTops, SensorInRange, sensorIn}
+use Rattle.sensors.specs.Items.{itemsPerSensor, sensorItems, sensorTops, SensorInRange, sensorIn}
 use Rattle.voter.specs.declared.Voter.{Voter}
 use Rattle.voter.proofs.Numbering.{at-number, number-at, number-to-4}
 
 -- ---- A truth value as a number
 
@@ -86,3 +86,10 @@ items-mirror (number ∷ held ∷ odd ∷ count ∷ []) h =
       in-a-byte count (omega (arith, h .ranges 3 (lit< tt))),
     )
 items-mirror (number ∷ held ∷ odd ∷ count ∷ item ∷ items) h = absurd (omega (arith, h .long))
+
+-- ---- Items in their ranges are of a sensor whose odd channel and count are in theirs.
+
+pub in-range-counts : (items : List ℕ) → SensorInRange items → CountInRange (sensorIn items)
+unfolding sensorIn
+in-range-counts items h =
+    record { odd = omega (arith, h .ranges 2 (lit< tt)); count = omega (arith, h .ranges 3 (lit< tt)) }

@@ -1,9 +1,9 @@
--- `voter::Voter::count_rules` meets its contract: the tests one after the other.
+-- `sensors::count_rules` meets its contract: the tests one after the other.
 -- Assumes nothing.
 use Rattle.voter.specs.Counts.{oddWithCount, noOddOfTwo, noneOfInvalid, countRules}
 use borrow.Author.Needs.{needs}
-use Rattle.voter.proofs.Voter.count_rules.Statement.{statement}
-use Rattle.voter.proofs.Voter.count_rules.Tie as tie
+use Rattle.sensors.proofs.count_rules.Statement.{statement}
+use Rattle.sensors.proofs.count_rules.Tie as tie
 
 valid-channels-requires : tie.Need-valid-channels-requires
 valid-channels-requires c κs = search needs

@@ -1,9 +1,9 @@
--- `voter::items::channels_at` meets its contract: by the number.
+-- `voter::Channels::numbered` meets its contract: by the number.
 -- Assumes nothing.
 use borrow.Author.Tests.{eq-eqb, ne-eqb}
 use Rattle.voter.specs.Numbers.{channelsAt}
-use Rattle.voter.proofs.items.channels_at.Statement.{statement}
-use Rattle.voter.proofs.items.channels_at.Tie as tie
+use Rattle.voter.proofs.Channels.numbered.Statement.{statement}
+use Rattle.voter.proofs.Channels.numbered.Tie as tie
 
 returns : tie.Need-returns
 unfolding channelsAt
@@ -25,5 +25,5 @@ returns-5 : tie.Need-returns-5
 unfolding channelsAt
 returns-5 c = simp (ne-eqb _ 3 (c .if4 .left), ne-eqb _ 2 (c .before .if3 .left), ne-eqb _ 1 (c .before .before .if2 .left), ne-eqb _ 0 (c .before .before .before .if1 .left))
 
-pub channels-at-spec : {M : Type 1} → statement M
-channels-at-spec = tie.close (tie.spec returns returns-2 returns-3 returns-4 returns-5)
+pub numbered-spec : {M : Type 1} → statement M
+numbered-spec = tie.close (tie.spec returns returns-2 returns-3 returns-4 returns-5)

@@ -1,11 +1,11 @@
--- `voter::Voter::items` meets its contract: its number, the value held, odd channel and count.
+-- `sensors::items` meets its contract: its number, the value held, odd channel and count.
 -- Assumes nothing.
 use Rattle.voter.specs.Voting.{valueOf}
-use Rattle.voter.specs.Items.{sensorItems}
-use Rattle.voter.proofs.Mirrors.{byte-is-bit}
+use Rattle.sensors.specs.Items.{sensorItems}
+use Rattle.sensors.proofs.Mirrors.{byte-is-bit}
 use borrow.Author.Needs.{needs}
-use Rattle.voter.proofs.Voter.items.Statement.{statement}
-use Rattle.voter.proofs.Voter.items.Tie as tie
+use Rattle.sensors.proofs.items.Statement.{statement}
+use Rattle.sensors.proofs.items.Tie as tie
 
 number-requires : tie.Need-number-requires
 number-requires c κs = search needs

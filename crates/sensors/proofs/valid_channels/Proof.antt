@@ -1,9 +1,9 @@
--- `voter::count_rules::valid_channels` meets its contract: each arm is a line of the rule.
+-- `sensors::valid_channels` meets its contract: each arm is a line of the rule.
 -- Assumes nothing.
 use Rattle.voter.specs.Voting.{validChannels}
 use borrow.Author.Needs.{needs}
-use Rattle.voter.proofs.count_rules.valid_channels.Statement.{statement}
-use Rattle.voter.proofs.count_rules.valid_channels.Tie as tie
+use Rattle.sensors.proofs.valid_channels.Statement.{statement}
+use Rattle.sensors.proofs.valid_channels.Tie as tie
 
 enum-told : tie.Need-enum-told
 enum-told c = search needs

@@ -1,15 +1,15 @@
--- `voter::Voter::from_items` meets its contract: the channels by their number, the value, and two bytes.
+-- `sensors::from_items` meets its contract: the channels by their number, the value, and two bytes.
 -- Assumes nothing.
-use Rattle.voter.specs.Items.{sensorIn}
+use Rattle.sensors.specs.Items.{sensorIn}
 use borrow.Author.Needs.{needs}
-use Rattle.voter.proofs.Voter.from_items.Statement.{statement}
-use Rattle.voter.proofs.Voter.from_items.Tie as tie
+use Rattle.sensors.proofs.from_items.Statement.{statement}
+use Rattle.sensors.proofs.from_items.Tie as tie
 
-array-read-channels-at : tie.Need-array-read-channels-at
-array-read-channels-at c = search needs
+array-read-numbered : tie.Need-array-read-numbered
+array-read-numbered c = search needs
 
-channels-at-requires : tie.Need-channels-at-requires
-channels-at-requires c κs = search needs
+numbered-requires : tie.Need-numbered-requires
+numbered-requires c κs = search needs
 
 array-read-t9 : tie.Need-array-read-t9
 array-read-t9 c = search needs
@@ -28,14 +28,14 @@ cast-t20 c = search needs
 
 returns : tie.Need-returns
 unfolding sensorIn
-returns c = simp (c .channels-at .ensures)
+returns c = simp (c .numbered .ensures)
 
 pub from-items-spec : {M : Type 1} → statement M
 from-items-spec =
     tie.close
     (tie.spec
-    array-read-channels-at
-    channels-at-requires
+    array-read-numbered
+    numbered-requires
     array-read-t9
     array-read-t13
     cast-t15

@@ -1,16 +1,16 @@
 -- Requests K3 and K6, "per sensor its voter and held value", and behind them its odd channel and count: what a sensor is as items of an
 -- image, their ranges, and the sensor that items are of. From the ranges alone each gives the other (proofs/Mirrors.antt); the rules that
--- an image must keep to beside them are specs/Counts.antt.
+-- an image must keep to beside them are the voter's specs/Counts.antt.
 -- Assumes nothing.
 use Prim.Native.Nat.{ℕ, _%_, _≤_, _<_}
 use mathlib.Core.List.{List, [], _∷_}
 use mathlib.Core.Path.{_≡_}
 use lib.ListN.{length, getD}
 use Rattle.common.specs.Bits.{bit, isOne}
 use Rattle.voter.specs.Voting.{sensor, valueOf}
 use Rattle.voter.specs.Numbers.{numberOf, channelsAt, lastNumber}
 use Rattle.voter.specs.Counts.{lastChannel, lastCount}
 use Rattle.voter.specs.declared.Voter.{Voter}
 
 -- A sensor is so many items.
 abbrev pub itemsPerSensor : ℕ

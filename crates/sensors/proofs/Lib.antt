@@ -1,0 +1,4 @@
+pub mod Mirrors
+pub mod Counting
+pub mod Worked
+pub mod Once
