@@ -6,7 +6,7 @@ use mathlib.Core.Bool.{Bool, cond, _||_}
 use mathlib.Core.List.{List, [], _∷_, _++_}
 use mathlib.Core.Path.{_≡_}
 use lib.Dec.{T}
-use lib.ListN.{length}
+use lib.ListN.{length, replicate}
 use Rattle.common.specs.Ascii.{ascii, lf}
 use Rattle.common.specs.Decimal.{decimal}
 use Rattle.controller.specs.declared.State.{State}
@@ -17,6 +17,7 @@ use Rattle.plain.specs.Plain.{plainOf}
 use Rattle.forms.specs.Forms.{oldSize, newSize}
 use Rattle.converting.specs.Converting.{toNewOf, toOldOf}
 use Rattle.commands.specs.declared.saving.Loaded.{Loaded}
+use Rattle.commands.specs.declared.conversions.Converted.{Converted}
 use Rattle.commands.specs.declared.conversions.Form.{Form}
 use Rattle.commands.specs.declared.conversions.Form.the-variants.{New, Old}
 use Rattle.commands.specs.Loading.{loadedOf}
@@ -78,11 +79,16 @@ abbrev pub convertedBy : Form → List ℕ → List ℕ → ℕ × List ℕ
 convertedBy New = toNewOf
 convertedBy Old = toOldOf
 
--- An image is put there only where one was converted: where there was one for which 0 is given.
-pub record ConvertedRight (form : Form) : Type 0 where
+-- A buffer for either form, before anything is put into it.
+abbrev pub noImage : List ℕ
+noImage = replicate newSize 0
+
+-- There are bytes that this is the loading of, and an image was put there only where their conversion gives 0. (That its bytes are what was put
+-- there is read in the source, and tested.)
+pub record ConvertedFrom (form : Form) (answer : Converted) : Type 0 where
   pub image : List ℕ
-  pub buffer : List ℕ
-  pub converted : convertedBy form image buffer .0 ≡ 0
+  pub loaded : answer .loaded ≡ loadedOf image
+  pub only-then : T (answer .saved) → convertedBy form image noImage .0 ≡ 0
 
 -- What is said of it: its path, the form, and the path of the other.
 unfoldable pub convertedText : List ℕ → List ℕ → Form → List ℕ

@@ -2,10 +2,11 @@
 ghost use lib.Dec.{T};
 ghost use mathlib.Core.Path.{_≡_};
 ghost use Rattle.texts.specs.Puts.{PutIfRoom};
-ghost use Rattle.commands.specs.Words.{formSize, formName, convertedBy, ConvertedRight, convertedText};
+ghost use Rattle.commands.specs.Words.{formSize, formName, convertedBy, noImage, ConvertedFrom, convertedText};
 use crate::messages;
 use crate::saving;
 use crate::saving::HANDOVER;
+use crate::saving::Loaded;
 use crate::saving::ROOM;
 use image::SIZE;
 
@@ -15,24 +16,37 @@ pub enum Form {
     Old,
 }
 
+// A conversion: whether the image stands at its path, and what was loaded.
+pub struct Converted {
+    pub saved: bool,
+    pub loaded: Loaded,
+}
+
 // `handover new TO FROM` and `handover old TO FROM`: the image that stands at FROM, in the form that is asked for, becomes the file TO, which may
 // be the same one.
-pub fn convert(to: i32, path: &[u8], from: &[u8], form: Form) -> bool
-    ensures { λ r. ⌜ (T r → ConvertedRight form) ⌝ }
+pub fn convert(to: i32, path: &[u8], from: &[u8], form: Form) -> Converted
+    ensures { λ r. ⌜ ConvertedFrom form r ⌝ }
 {
     let mut bytes = [0u8; ROOM];
     let loaded = saving::load_told(&HANDOVER, from, &mut bytes);
     if loaded.taken {
         let n = loaded.read;
-        return keep(to, path, from, &bytes[..n], form);
+        return Converted {
+            saved: keep(to, path, from, &bytes[..n], form),
+            loaded,
+        };
     }
     messages::say(&HANDOVER, path, b"nothing was saved");
-    false
+    Converted {
+        saved: false,
+        loaded,
+    }
 }
 
-// Puts an image, converted, at a path, and says on the other descriptor what it is; or says why not.
+// Puts an image that was taken, converted, at a path, and says on the other descriptor what it is; or says why not. (With room for either form, what
+// was taken is refused by 12 alone.)
 fn keep(to: i32, path: &[u8], from: &[u8], image: &[u8], form: Form) -> bool
-    ensures { λ r. ⌜ (T r → ConvertedRight form) ⌝ }
+    ensures { λ r. ⌜ (T r → convertedBy form (now (image .entry)) noImage .0 ≡ 0) ⌝ }
 {
     let mut out = [0u8; SIZE];
     let refusal = in_form(form, image, &mut out);
@@ -40,7 +54,7 @@ fn keep(to: i32, path: &[u8], from: &[u8], image: &[u8], form: Form) -> bool
         messages::say(
             &HANDOVER,
             from,
-            b"refusal 12: a channel is under suspicion, which the old form cannot bear; a sample or two later it can be converted",
+            b"refusal 12: a channel is under suspicion, which the old form cannot bear; an image saved a sample or two later can be converted",
         );
         messages::say(&HANDOVER, path, b"nothing was saved");
         return false;

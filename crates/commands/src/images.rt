@@ -32,14 +32,14 @@ pub struct Shown {
     pub put: usize,
 }
 
-// `handover save NEW`: the trace from a fresh start, and the image of its last state at a path.
+// `handover save TO`: the trace from a fresh start, and the image of its last state at a path.
 pub fn save(from: i32, to: i32, new: &[u8]) -> Saved
     ensures { λ r. ⌜ SavedFrom (freshOf 0) r ⌝ }
 {
     save_from(from, to, new, State::fresh(0))
 }
 
-// `handover save NEW OLD`: the same from the image that stands at a path, which may be the same one.
+// `handover save TO FROM`: the same from the image that stands at a path, which may be the same one.
 pub fn save_onward(from: i32, to: i32, new: &[u8], old: &[u8]) -> Saved
     ensures { λ r. ⌜ SavedOnward r ⌝ }
 {

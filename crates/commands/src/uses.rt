@@ -2,7 +2,7 @@
 //   waves [IMAGE]            a trace on the first descriptor, its value change dump on the second (request K2); with an image (request K3), that of a
 //                            lesson that goes on from it
 //   sheet                    a dump, its values as CSV (request K2)
-//   handover save NEW [OLD]  a trace, from a fresh start or from the image OLD; the image of its last state becomes the file NEW (request K3)
+//   handover save TO [FROM]  a trace, from a fresh start or from the image FROM; the image of its last state becomes the file TO (request K3)
 //   handover resume IMAGE    a trace goes on from an image; its rows
 //   handover show IMAGE      an image in plain words
 //   handover new TO FROM     the image FROM in the new form becomes the file TO (request K6)
@@ -108,7 +108,7 @@ fn handover(count: usize, word: &[u8], path: &[u8], other: &[u8], from: i32, to:
     }
     words::say(
         b"handover",
-        b"use: save NEW [OLD] < TRACE, resume IMAGE < TRACE, show IMAGE, new TO FROM, or old TO FROM",
+        b"use: save TO [FROM] < TRACE, resume IMAGE < TRACE, show IMAGE, new TO FROM, or old TO FROM",
     );
     false
 }

@@ -1,6 +1,6 @@
 -- Loops over a list, one element a turn: what a turn adds to `some`, to `all` and to `eachFrom`.
 -- Assumes nothing.
-use mathlib.Core.Bool.{Bool, true, false, _&&_, _||_, and-assoc, and-true, or-assoc, or-false}
+use mathlib.Core.Bool.{Bool, false, _&&_, _||_, and-assoc, and-true, or-assoc, or-false}
 use mathlib.Core.List.{List, [], _∷_}
 use mathlib.Core.Path.{_≡_, refl, sym, ap, _∙_}
 use Prim.Native.Nat.{ℕ, zero, suc, _+_, _<_, _≤_}

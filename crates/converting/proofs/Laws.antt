@@ -6,7 +6,7 @@ use Prim.Native.Nat.{ℕ, _≤_}
 use native.Mathlib.Omega.{arith}
 use mathlib.Core.List.{List, _++_}
 use mathlib.Core.Logic._⊎_.{inl, inr}
-use mathlib.Core.Path.{_≡_, refl, sym, ap, subst, subst⁻¹, _∙_}
+use mathlib.Core.Path.{_≡_, sym, ap, subst, subst⁻¹, _∙_}
 use lib.Dec.{T}
 use lib.ListN.{length, take, drop}
 use lib.Seq.{take-at}
@@ -18,6 +18,7 @@ use Rattle.forms.proofs.ThereAndBack.{
   old-stays,
   new-form-length,
   old-form-length,
+  has-stamp,
   stamp-in-new-form,
   stamp-in-old-form,
   old-to-new-to-old,
@@ -29,9 +30,9 @@ use Rattle.voter.proofs.Kept.{no-odd-at-0}
 use Rattle.controller.specs.declared.State.{State}
 use Rattle.image.specs.Xdr.{itemsIn}
 use Rattle.image.specs.Items.{sensorCount, tops, within, sensorsIn, itemAt, stateIn}
-use Rattle.image.specs.Images.{newItems, loadedAt, refusalOf, loadOf}
+use Rattle.image.specs.Images.{loadedAt, refusalOf, loadOf}
 use Rattle.image.specs.Conditions.{Taken}
-use Rattle.image.proofs.EitherForm.{stays-new, own-items, same-controller, same-refusal, same-loading, first-item}
+use Rattle.image.proofs.EitherForm.{own-items, same-controller, same-refusal, same-loading, first-item}
 use Rattle.image.proofs.Exact.{in-range-within, taken-holds, holds-taken}
 use Rattle.image.proofs.Uncounted.{old-loads-uncounted, none-runs-none-counted}
 use Rattle.converting.specs.Converting.{toNewOf, toOldOf, newFrom, oldFrom, backRefusalOf, AllCountsAre0}
@@ -104,12 +105,8 @@ module _ (image : List ℕ) (taken : Taken image) (none : AllCountsAre0 image) w
     pub to-old-keeps-the-stamp : itemAt (itemsIn (oldFrom image buffer)) 0 ≡ itemAt (itemsIn image) 0
     to-old-keeps-the-stamp =
         ap (λ (bytes : List ℕ). itemAt (itemsIn bytes) 0) to-old-stands
-        ∙ first-item (inOldForm image) image (omega (arith, old-form-length image (taken .inRange .long))) (four (taken .inRange .long))
+        ∙ first-item (inOldForm image) image (omega (arith, old-form-length image (taken .inRange .long))) (has-stamp image (taken .inRange .long))
         (stamp-in-old-form image (taken .inRange .long))
-      where
-        four : HasForm image → 4 ≤ length image
-        four (inl old) = omega (arith, old)
-        four (inr new) = omega (arith, new)
 
     -- An old image is handed over byte for byte.
     pub old-to-old : length image ≡ oldSize → oldFrom image buffer ≡ image
@@ -140,12 +137,8 @@ module _ (image : List ℕ) (taken : Taken image) where
     pub to-new-keeps-the-stamp : itemAt (itemsIn (newFrom image buffer)) 0 ≡ itemAt (itemsIn image) 0
     to-new-keeps-the-stamp =
         ap (λ (bytes : List ℕ). itemAt (itemsIn bytes) 0) to-new-stands
-        ∙ first-item (inNewForm image) image (omega (arith, new-form-length image (taken .inRange .long))) (four (taken .inRange .long))
+        ∙ first-item (inNewForm image) image (omega (arith, new-form-length image (taken .inRange .long))) (has-stamp image (taken .inRange .long))
         (stamp-in-new-form image (taken .inRange .long))
-      where
-        four : HasForm image → 4 ≤ length image
-        four (inl old) = omega (arith, old)
-        four (inr new) = omega (arith, new)
 
     -- A new image is handed over byte for byte.
     pub new-to-new : length image ≡ newSize → newFrom image buffer ≡ image

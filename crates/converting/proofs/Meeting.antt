@@ -1,7 +1,6 @@
 -- The conversions as the code makes them, by their cases: what loading answers, and what is put into the buffer.
 -- Assumes nothing.
 use Prim.Native.Nat.{ℕ, _+_, _≤_}
-use native.Mathlib.Nat.{zero-add}
 use native.Mathlib.Omega.{arith}
 use mathlib.Core.Bool.{Bool, true, false, cond}
 use mathlib.Core.List.{List, _++_}
@@ -15,7 +14,7 @@ use Rattle.forms.proofs.ThereAndBack.{new-form-length, old-form-length}
 use Rattle.voter.specs.Counts.{countRuns}
 use Rattle.controller.specs.declared.State.{State}
 use Rattle.controller.specs.declared.Answer.{Answer}
-use Rattle.image.specs.Images.{loadedAt, refusalOf, loadOf}
+use Rattle.image.specs.Images.{refusalOf, loadOf}
 use Rattle.image.proofs.Exact.{taken-holds, taken-is-loaded}
 use Rattle.converting.specs.Converting.{toNewOf, someCountRuns, backRefusalOf, toOldOf}
 use Rattle.converting.proofs.Exact.{handed-refusal, handed-image, back-of-refused, back-of-taken}

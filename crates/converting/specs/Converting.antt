@@ -1,5 +1,5 @@
--- Request K6: an image converted from one form to the other, into a lent buffer, with the refusals 8, 10, 11 and 12. No controller is loaded,
--- and the stamp is kept. An image that has the form that is asked for is looked at like any other, and handed over byte for byte.
+-- Request K6: an image converted from one form to the other, into a lent buffer, with the refusals 8, 10, 11 and 12. No controller comes of
+-- it, and the stamp is kept. An image that has the form that is asked for is looked at like any other, and handed over byte for byte.
 -- Assumes nothing.
 use Prim.Native.Nat.{ℕ}
 use mathlib.Core.Bool.{Bool, cond, not}

@@ -1,4 +1,5 @@
-// Converting an image from one form to the other (request K6), into a lent buffer and without loading it. The rule is
+// Converting an image from one form to the other (request K6), into a lent buffer. It is held to what loading takes, and no controller is handed
+// out. The rule is
 // specs/Converting.antt; what it promises is proofs/Exact.antt (which number is given, exactly) and proofs/Laws.antt (there and back, and that
 // both forms load as the same controller).
 ghost use mathlib.Core.Path.{_≡_};
@@ -6,10 +7,8 @@ ghost use Rattle.common.specs.Lists.{some};
 ghost use Rattle.voter.specs.Counts.{countRuns};
 ghost use Rattle.converting.specs.Converting.{toNewOf, toOldOf};
 use controller::State;
+use forms::SENSORS;
 use voter::Voter;
-
-// So many sensors.
-const SENSORS: usize = 18;
 
 // Converts an image to the new form: 0, or 8 where the buffer is shorter than that, 10 or 11, and the buffer as it was.
 pub fn to_new(image: &[u8], out: &mut [u8]) -> u8

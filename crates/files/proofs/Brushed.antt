@@ -35,6 +35,7 @@ use Rattle.laws.proofs.Stages.{stages, coreStages}
 use Rattle.laws.proofs.Lifted.{coreOn, step-keeps, votes-length, reached-is-allowed}
 use Rattle.laws.proofs.Bounces.{hears-the-accepted}
 use Rattle.laws.proofs.Counts.{counts-tell, agreed-accepted}
+use Rattle.laws.proofs.Sometimes.{after-is-reached}
 use Rattle.image.specs.Items.{sensorCount}
 use Rattle.image.specs.Images.{imageOf}
 use Rattle.lesson.specs.Replay.{resumedOf}
@@ -259,11 +260,6 @@ clean-leaves-no-count s reached none (r ∷ rows) clean =
 
 -- ---- A lesson and the same lesson brushed
 
-reached-after : (s : State) → Reached s → (rows : List Row) → Reached (after s rows)
-unfolding after
-reached-after s reached [] = reached
-reached-after s reached (r ∷ rows) = reached-after (next s r) (step reached (r .0) (r .1)) rows
-
 module _
     (s : State) (reached : Reached s) (quiet : AllQuiet s) (rows others : List Row) (brushed : Brushed rows others)
     (forgiven : AllForgiven s rows) (otherForgiven : AllForgiven s others) where
@@ -278,9 +274,9 @@ module _
   -- .. and where every count is 0 at the end of both, so is the controller that is left.
   pub brushed-leaves-the-same : CountsAre0 (after s rows) → CountsAre0 (after s others) → after s rows ≡ after s others
   brushed-leaves-the-same none otherNone =
-      sym (no-count-no-loss-of-all (after s rows) (counts-tell (after s rows) (reached-after s reached rows) none))
+      sym (no-count-no-loss-of-all (after s rows) (counts-tell (after s rows) (after-is-reached s reached rows) none))
       ∙ both .1
-      ∙ no-count-no-loss-of-all (after s others) (counts-tell (after s others) (reached-after s reached others) otherNone)
+      ∙ no-count-no-loss-of-all (after s others) (counts-tell (after s others) (after-is-reached s reached others) otherNone)
 
 -- ---- Whole files
 

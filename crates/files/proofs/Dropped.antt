@@ -1,7 +1,6 @@
 -- A controller with its odd channels and counts at 0: its sensors have the same values and are invalid or not as they were, and it is that
 -- controller where no count runs.
 -- Assumes nothing.
-use Prim.Native.Nat.{ℕ}
 use mathlib.Core.Bool.{Bool, false}
 use mathlib.Core.List.{List, [], _∷_, map}
 use mathlib.Core.Path.{_≡_, refl, ap₂}

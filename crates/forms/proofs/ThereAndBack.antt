@@ -5,50 +5,52 @@ use Prim.Native.Nat.{ℕ, zero, suc, _+_, _*_, _<_, _≤_}
 use native.Mathlib.Omega.{arith}
 use mathlib.Core.Bool.{Bool, true, false}
 use mathlib.Core.List.{List, [], _++_, append-assoc}
-use mathlib.Core.Logic.{_⊎_}
 use mathlib.Core.Logic._⊎_.{inl, inr}
 use mathlib.Core.Path.{_≡_, refl, sym, ap, ap₂, subst, subst⁻¹, _∙_}
 use borrow.Author.Tests.{eq-eqb, ne-eqb}
 use lib.Dec.{T, eqb, eqb→eq}
-use lib.ListN.{length, take, drop, replicate, length-append, length-take, length-drop, take-append-drop}
+use lib.ListN.{length, take, drop, length-append, length-drop, take-append-drop}
 use lib.Seq.{take-at, drop-at, take-add, drop-drop, length-take-le}
-use Rattle.forms.specs.Forms.{
-  stampBytes,
-  sensors,
-  voterBytes,
-  countBytes,
-  restBytes,
-  oldSize,
-  newSize,
-  HasForm,
-  eightZeros,
-  withZeros,
-  sensorsWidened,
-  widened,
-  sensorsNarrowed,
-  narrowed,
-  inNewForm,
-  inOldForm,
-  countAt,
-  NoneCounted,
-}
+use Rattle.forms.specs.Forms.{stampBytes, sensors, voterBytes, countBytes, oldSize, newSize, HasForm, eightZeros, withZeros, sensorsWidened, widened, sensorsNarrowed, narrowed, inNewForm, inOldForm, NoneCounted}
+
+-- ---- One sensor
+
+with-zeros-length : (voter : List ℕ) → length (withZeros voter) ≡ length voter + countBytes
+unfolding withZeros
+with-zeros-length voter = simp length-append (omega arith)
+
+module _ (voter rest : List ℕ) (long : length voter ≡ voterBytes) where
+  whole-long : length (withZeros voter) ≡ voterBytes + countBytes
+  whole-long = omega (arith, with-zeros-length voter, long)
+
+  -- Behind it stands the rest.
+  behind-it : drop (voterBytes + countBytes) (withZeros voter ++ rest) ≡ rest
+  behind-it = drop-at (withZeros voter) rest (voterBytes + countBytes) whole-long
+
+  -- Its own eight bytes stand in front ..
+  voter-in-front : take voterBytes (withZeros voter ++ rest) ≡ voter
+  unfolding withZeros
+  voter-in-front = ap (take voterBytes) (append-assoc voter eightZeros rest) ∙ take-at voter (eightZeros ++ rest) voterBytes long
+
+  -- .. and behind them the zero bytes.
+  zeros-behind : take countBytes (drop voterBytes (withZeros voter ++ rest)) ≡ eightZeros
+  unfolding withZeros
+  zeros-behind =
+      ap (λ (l : List ℕ). take countBytes (drop voterBytes l)) (append-assoc voter eightZeros rest)
+      ∙ ap (take countBytes) (drop-at voter (eightZeros ++ rest) voterBytes long)
+      ∙ take-at eightZeros rest countBytes refl
 
 -- ---- How long they are
 
 pub sensors-widened-length : (more : ℕ) (bytes : List ℕ) → voterBytes * more ≤ length bytes
     → length (sensorsWidened more bytes) ≡ (voterBytes + countBytes) * more
-unfolding withZeros sensorsWidened
+unfolding sensorsWidened
 sensors-widened-length zero bytes h = refl
 sensors-widened-length (suc more) bytes h =
+    let one : List ℕ = take voterBytes bytes in
+    let long : length one ≡ voterBytes = length-take-le voterBytes bytes (omega arith) in
     let rest = sensors-widened-length more (drop voterBytes bytes) (simp length-drop (omega arith)) in
-    let first : length (take voterBytes bytes) ≡ voterBytes = length-take-le voterBytes bytes (omega arith) in
-    omega (
-      arith,
-      length-append (take voterBytes bytes ++ eightZeros) (sensorsWidened more (drop voterBytes bytes)),
-      length-append (take voterBytes bytes) eightZeros,
-      first,
-      rest,
-    )
+    omega (arith, length-append (withZeros one) (sensorsWidened more (drop voterBytes bytes)), whole-long one [] long, rest)
 
 pub sensors-narrowed-length : (more : ℕ) (bytes : List ℕ) → (voterBytes + countBytes) * more ≤ length bytes
     → length (sensorsNarrowed more bytes) ≡ voterBytes * more
@@ -78,15 +80,14 @@ in-three n m bytes = ap (λ (l : List ℕ). l ++ drop (n + m) bytes) (sym (take-
 
 narrowed-of-widened : (more : ℕ) (bytes rest : List ℕ) → voterBytes * more ≤ length bytes
     → sensorsNarrowed more (sensorsWidened more bytes ++ rest) ≡ take (voterBytes * more) bytes
-unfolding withZeros sensorsWidened sensorsNarrowed
+unfolding sensorsWidened sensorsNarrowed
 narrowed-of-widened zero bytes rest h = refl
 narrowed-of-widened (suc more) bytes rest h =
     let one : List ℕ = take voterBytes bytes in
     let others : List ℕ = sensorsWidened more (drop voterBytes bytes) in
     let long : length one ≡ voterBytes = length-take-le voterBytes bytes (omega arith) in
-    let again : ((one ++ eightZeros) ++ others) ++ rest ≡ (one ++ eightZeros) ++ (others ++ rest) = append-assoc (one ++ eightZeros) others rest in
     let place : voterBytes * suc more ≡ voterBytes + voterBytes * more = omega arith in
-    rw (again, front-of one eightZeros (others ++ rest) voterBytes countBytes long refl, rest-of one eightZeros (others ++ rest) voterBytes countBytes long refl, narrowed-of-widened more (drop voterBytes bytes) rest (simp length-drop (omega arith)), place)
+    rw (append-assoc (withZeros one) others rest, voter-in-front one (others ++ rest) long, behind-it one (others ++ rest) long, narrowed-of-widened more (drop voterBytes bytes) rest (simp length-drop (omega arith)), place)
     (sym (take-add voterBytes (voterBytes * more) bytes))
 
 -- Odd channel and count of sensor i, among the bytes of the sensors.
@@ -113,25 +114,46 @@ widened-of-narrowed (suc more) bytes rest h none =
     rw (append-assoc one others rest, take-at one (others ++ rest) voterBytes long, drop-at one (others ++ rest) voterBytes long, widened-of-narrowed more (drop (voterBytes + countBytes) bytes) rest (simp length-drop (omega arith)) later, whole, place)
     (sym (take-add (voterBytes + countBytes) ((voterBytes + countBytes) * more) bytes))
 
--- Behind each sensor's eight bytes, widened, eight zero bytes stand.
-none-in-widened : (more : ℕ) (bytes rest : List ℕ) → voterBytes * more ≤ length bytes
-    → (i : ℕ) → i < more → countIn i (sensorsWidened more bytes ++ rest) ≡ eightZeros
-unfolding withZeros sensorsWidened countIn
-none-in-widened zero bytes rest h i less = absurd (omega arith)
-none-in-widened (suc more) bytes rest h zero less =
+-- Sensor i, widened, is its eight bytes and eight zero bytes ..
+at-widened : (more : ℕ) (bytes rest : List ℕ) → voterBytes * more ≤ length bytes → (i : ℕ) → i < more
+    → (let there = drop ((voterBytes + countBytes) * i) (sensorsWidened more bytes ++ rest) in
+    (take voterBytes there ≡ take voterBytes (drop (voterBytes * i) bytes)) × (take countBytes (drop voterBytes there) ≡ eightZeros))
+unfolding sensorsWidened
+at-widened zero bytes rest h i less = absurd (omega arith)
+at-widened (suc more) bytes rest h zero less =
     let one : List ℕ = take voterBytes bytes in
     let others : List ℕ = sensorsWidened more (drop voterBytes bytes) in
     let long : length one ≡ voterBytes = length-take-le voterBytes bytes (omega arith) in
-    rw (append-assoc (one ++ eightZeros) others rest, behind-front one eightZeros (others ++ rest) voterBytes countBytes long refl)
-    (take-at eightZeros (others ++ rest) countBytes refl)
-none-in-widened (suc more) bytes rest h (suc i) less =
+    rw (append-assoc (withZeros one) others rest) (voter-in-front one (others ++ rest) long, zeros-behind one (others ++ rest) long)
+at-widened (suc more) bytes rest h (suc i) less =
     let one : List ℕ = take voterBytes bytes in
     let others : List ℕ = sensorsWidened more (drop voterBytes bytes) in
     let long : length one ≡ voterBytes = length-take-le voterBytes bytes (omega arith) in
     let width : ℕ = voterBytes + countBytes in
-    let further : width + (width * i + voterBytes) ≡ width * suc i + voterBytes = omega arith in
-    rw (append-assoc (one ++ eightZeros) others rest, ← further, ← drop-drop (width * i + voterBytes) width ((one ++ eightZeros) ++ (others ++ rest)), rest-of one eightZeros (others ++ rest) voterBytes countBytes long refl)
-    (none-in-widened more (drop voterBytes bytes) rest (simp length-drop (omega arith)) i (omega arith))
+    let further : width + width * i ≡ width * suc i = omega arith in
+    let on : voterBytes + voterBytes * i ≡ voterBytes * suc i = omega arith in
+    rw (append-assoc (withZeros one) others rest, ← further, ← drop-drop (width * i) width (withZeros one ++ (others ++ rest)), behind-it one (others ++ rest) long, ← on, ← drop-drop (voterBytes * i) voterBytes bytes)
+    (at-widened more (drop voterBytes bytes) rest (simp length-drop (omega arith)) i (omega arith))
+
+-- .. and narrowed it is its first eight.
+at-narrowed : (more : ℕ) (bytes rest : List ℕ) → (voterBytes + countBytes) * more ≤ length bytes → (i : ℕ) → i < more
+    → take voterBytes (drop (voterBytes * i) (sensorsNarrowed more bytes ++ rest)) ≡ take voterBytes (drop ((voterBytes + countBytes) * i) bytes)
+unfolding sensorsNarrowed
+at-narrowed zero bytes rest h i less = absurd (omega arith)
+at-narrowed (suc more) bytes rest h zero less =
+    let one : List ℕ = take voterBytes bytes in
+    let others : List ℕ = sensorsNarrowed more (drop (voterBytes + countBytes) bytes) in
+    let long : length one ≡ voterBytes = length-take-le voterBytes bytes (omega arith) in
+    rw (append-assoc one others rest) (take-at one (others ++ rest) voterBytes long)
+at-narrowed (suc more) bytes rest h (suc i) less =
+    let one : List ℕ = take voterBytes bytes in
+    let width : ℕ = voterBytes + countBytes in
+    let others : List ℕ = sensorsNarrowed more (drop width bytes) in
+    let long : length one ≡ voterBytes = length-take-le voterBytes bytes (omega arith) in
+    let further : voterBytes + voterBytes * i ≡ voterBytes * suc i = omega arith in
+    let on : width + width * i ≡ width * suc i = omega arith in
+    rw (append-assoc one others rest, ← further, ← drop-drop (voterBytes * i) voterBytes (one ++ (others ++ rest)), drop-at one (others ++ rest) voterBytes long, ← on, ← drop-drop (width * i) width bytes)
+    (at-narrowed more (drop width bytes) rest (simp length-drop (omega arith)) i (omega arith))
 
 -- ---- Whole images
 
@@ -157,16 +179,33 @@ module _ (old : List ℕ) (long : length old ≡ oldSize) where
         length-drop (stampBytes + voterBytes * sensors) old,
       )
 
-  pub none-counted-widened : NoneCounted (widened old)
-  unfolding widened countIn
-  none-counted-widened i less =
+  -- The bytes of sensor i are where they should be, with zero bytes behind them, and so is the rest.
+  sensor-there : (i : ℕ) → i < sensors
+      → (let there = drop (stampBytes + (voterBytes + countBytes) * i) (widened old) in
+      (take voterBytes there ≡ take voterBytes (drop (stampBytes + voterBytes * i) old)) × (take countBytes (drop voterBytes there) ≡ eightZeros))
+  unfolding widened
+  sensor-there i less =
       let front : List ℕ = take stampBytes old in
       let sensed : List ℕ = sensorsWidened sensors (drop stampBytes old) in
       let rest : List ℕ = drop (stampBytes + voterBytes * sensors) old in
-      let width : ℕ = (voterBytes + countBytes) * sensors in
-      let place : stampBytes + ((voterBytes + countBytes) * i + voterBytes) ≡ stampBytes + (voterBytes + countBytes) * i + voterBytes = omega arith in
-      rw (← place, ← drop-drop ((voterBytes + countBytes) * i + voterBytes) stampBytes ((front ++ sensed) ++ rest), behind-front front sensed rest stampBytes width front-long sensed-long)
-      (none-in-widened sensors (drop stampBytes old) rest (simp length-drop (omega arith)) i less)
+      rw (
+        ← drop-drop ((voterBytes + countBytes) * i) stampBytes ((front ++ sensed) ++ rest),
+        behind-front front sensed rest stampBytes ((voterBytes + countBytes) * sensors) front-long sensed-long,
+        ← drop-drop (voterBytes * i) stampBytes old,
+      )
+      (at-widened sensors (drop stampBytes old) rest (simp length-drop (omega arith)) i less)
+
+  pub voter-in-widened : (i : ℕ) → i < sensors
+      → take voterBytes (drop (stampBytes + (voterBytes + countBytes) * i) (widened old)) ≡ take voterBytes (drop (stampBytes + voterBytes * i) old)
+  voter-in-widened i less = sensor-there i less .0
+
+  pub none-counted-widened : NoneCounted (widened old)
+  none-counted-widened i less =
+      ap (take countBytes) (sym (drop-drop voterBytes (stampBytes + (voterBytes + countBytes) * i) (widened old))) ∙ sensor-there i less .1
+
+  pub rest-in-widened : drop (stampBytes + (voterBytes + countBytes) * sensors) (widened old) ≡ drop (stampBytes + voterBytes * sensors) old
+  unfolding widened
+  rest-in-widened = rest-of (take stampBytes old) (sensorsWidened sensors (drop stampBytes old)) _ stampBytes _ front-long sensed-long
 
   pub narrowed-widened : narrowed (widened old) ≡ old
   unfolding widened narrowed
@@ -204,6 +243,24 @@ module _ (new : List ℕ) (long : length new ≡ newSize) where
         kept-long,
         length-drop (stampBytes + (voterBytes + countBytes) * sensors) new,
       )
+
+  pub voter-in-narrowed : (i : ℕ) → i < sensors
+      → take voterBytes (drop (stampBytes + voterBytes * i) (narrowed new)) ≡ take voterBytes (drop (stampBytes + (voterBytes + countBytes) * i) new)
+  unfolding narrowed
+  voter-in-narrowed i less =
+      let front : List ℕ = take stampBytes new in
+      let kept : List ℕ = sensorsNarrowed sensors (drop stampBytes new) in
+      let rest : List ℕ = drop (stampBytes + (voterBytes + countBytes) * sensors) new in
+      rw (
+        ← drop-drop (voterBytes * i) stampBytes ((front ++ kept) ++ rest),
+        behind-front front kept rest stampBytes (voterBytes * sensors) head-long kept-long,
+        ← drop-drop ((voterBytes + countBytes) * i) stampBytes new,
+      )
+      (at-narrowed sensors (drop stampBytes new) rest (simp length-drop (omega arith)) i less)
+
+  pub rest-in-narrowed : drop (stampBytes + voterBytes * sensors) (narrowed new) ≡ drop (stampBytes + (voterBytes + countBytes) * sensors) new
+  unfolding narrowed
+  rest-in-narrowed = rest-of (take stampBytes new) (sensorsNarrowed sensors (drop stampBytes new)) _ stampBytes _ head-long kept-long
 
   pub widened-narrowed : NoneCounted new → widened (narrowed new) ≡ new
   unfolding widened narrowed countIn
@@ -249,6 +306,11 @@ module _ (image : List ℕ) where
 
   pub old-stays : length image ≡ oldSize → inOldForm image ≡ image
   old-stays old = other-is-not-narrowed (λ new. absurd (omega (arith, new, old)))
+
+-- What has a form has a stamp.
+pub has-stamp : (image : List ℕ) → HasForm image → stampBytes ≤ length image
+has-stamp image (inl old) = omega (arith, old)
+has-stamp image (inr new) = omega (arith, new)
 
 -- What has a form has so many bytes in the one that is asked for.
 pub new-form-length : (image : List ℕ) → HasForm image → length (inNewForm image) ≡ newSize

@@ -25,11 +25,11 @@ pub const OLD: usize = STAMP + VOTER * SENSORS + REST;
 // An image of the new form has so many bytes: 348.
 pub const NEW: usize = STAMP + (VOTER + COUNT) * SENSORS + REST;
 
+// So many sensors.
+pub const SENSORS: usize = 18;
+
 // The bytes of the last stamp.
 const STAMP: usize = 4;
-
-// So many sensors.
-const SENSORS: usize = 18;
 
 // The bytes of a sensor's voter and held value, and of its odd channel and count.
 const VOTER: usize = 8;

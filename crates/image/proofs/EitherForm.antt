@@ -3,9 +3,9 @@
 use Prim.Native.Nat.{ℕ, zero, suc, _+_, _*_, _<_, _≤_}
 use native.Mathlib.Omega.{arith}
 use mathlib.Core.Bool.{Bool, true, false, cond}
-use mathlib.Core.List.{List, [], _∷_, _++_, append-nil}
+use mathlib.Core.List.{List, _++_, append-nil}
 use mathlib.Core.Logic._⊎_.{inl, inr}
-use mathlib.Core.Path.{_≡_, refl, sym, ap, _∙_}
+use mathlib.Core.Path.{_≡_, sym, ap, _∙_}
 use lib.Dec.{eqb, lit<}
 use lib.ListN.{length, getD, take, drop, replicate, drop-of-length-le}
 use lib.Seq.{getD-take}
@@ -14,7 +14,7 @@ use Rattle.common.proofs.Each.{each-at-index, each-by-index, each-append, each-
 use Rattle.texts.specs.Puts.{putOf}
 use Rattle.texts.proofs.Placing.{did-put, front-line}
 use Rattle.forms.specs.Forms.{stampBytes, sensors, voterBytes, oldSize, HasForm, eightZeros, withZeros, sensorsWidened, widened, inNewForm}
-use Rattle.forms.proofs.ThereAndBack.{new-stays, other-is-not-widened, new-form-length, stamp-in-new-form}
+use Rattle.forms.proofs.ThereAndBack.{new-stays, other-is-not-widened, new-form-length, has-stamp, stamp-in-new-form}
 use Rattle.controller.specs.declared.State.{State}
 use Rattle.image.specs.Xdr.{itemsIn}
 use Rattle.image.specs.Items.{itemAt, stateIn}
@@ -84,11 +84,7 @@ first-item one other a b same =
 pub stamp-item : (image : List ℕ) → HasForm image → itemAt (newItems image) 0 ≡ itemAt (itemsIn image) 0
 unfolding newItems
 stamp-item image form =
-    first-item (inNewForm image) image (omega (arith, new-form-length image form)) (long form) (stamp-in-new-form image form)
-  where
-    long : HasForm image → 4 ≤ length image
-    long (inl old) = omega (arith, old)
-    long (inr new) = omega (arith, new)
+    first-item (inNewForm image) image (omega (arith, new-form-length image form)) (has-stamp image form) (stamp-in-new-form image form)
 
 -- ---- Bytes
 

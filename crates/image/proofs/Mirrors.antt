@@ -1,4 +1,4 @@
--- Items and controllers: from the ranges alone each gives the other. Of the voter and of doors and gears only the laws that they promise are used.
+-- Items and controllers: from the ranges alone each gives the other. Of sensors, doors and gears only the laws that they promise are used.
 -- Assumes nothing.
 use Prim.Native.Nat.{ℕ, zero, suc, _+_, _*_, _-_, _^_}
 use native.Mathlib.Omega.{arith}

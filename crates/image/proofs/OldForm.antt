@@ -1,5 +1,5 @@
--- Request K6: an image of the old form is in range exactly if its own 51 items are in K3's ranges, and K6's rules are kept by themselves: so it is
--- taken exactly as K3 takes it.
+-- Request K6: an image of the old form is in range exactly if its own 51 items are in K3's ranges, and K6's rules hold of it in any case: so it is
+-- taken exactly if K3's conditions hold.
 -- Assumes nothing.
 use Prim.Native.Nat.{ℕ, zero, suc, _+_, _*_, _-_, _^_, _≤_}
 use native.Mathlib.Omega.{arith}
@@ -7,20 +7,19 @@ use mathlib.Core.Bool.{Bool, _&&_}
 use mathlib.Core.List.{List, [], _∷_, _++_}
 use mathlib.Core.Logic.{_↔_}
 use mathlib.Core.Logic._⊎_.{inl}
-use mathlib.Core.Path.{_≡_, refl, sym, ap, subst, subst⁻¹, _∙_}
+use mathlib.Core.Path.{_≡_, refl, ap, subst, subst⁻¹, _∙_}
 use lib.Dec.{T, leb}
 use lib.ListN.{length, take, drop, take-append-drop}
 use Rattle.common.specs.Lists.{Each}
 use Rattle.common.proofs.Each.{each-so}
 use Rattle.forms.specs.Forms.{voterBytes, sensors, oldSize, withZeros, sensorsWidened, widened}
 use Rattle.forms.proofs.ThereAndBack.{old-is-widened}
-use Rattle.voter.specs.declared.Voter.{Voter}
 use Rattle.voter.specs.Counts.{KeepsCountRules, NoCountRunsAt}
 use Rattle.voter.proofs.Kept.{none-keeps}
 use Rattle.image.specs.Xdr.{itemFrom, itemsIn}
 use Rattle.image.specs.Items.{sensorCount, sensorsTops, coreTops, tops, within}
 use Rattle.image.specs.Images.{newItems, loadedAt}
-use Rattle.image.specs.Conditions.{oldSensorsTops, oldTops, InRange, OldInRange}
+use Rattle.image.specs.Conditions.{KeepsRulesOfK3, oldSensorsTops, oldTops, InRange, OldInRange, Taken}
 use Rattle.image.proofs.Fours.{items-length}
 use Rattle.image.proofs.Ranged.{within-up-to, up-to-within}
 use Rattle.image.proofs.Exact.{in-range-within}
@@ -79,3 +78,33 @@ old-in-range-exactly image old = (
 pub old-keeps-count-rules : (image : List ℕ) → length image ≡ oldSize → (stamp : ℕ) → Each KeepsCountRules (loadedAt stamp image .voters)
 old-keeps-count-rules image old stamp =
     each-so NoCountRunsAt KeepsCountRules none-keeps (loadedAt stamp image .voters) (old-loads-uncounted image old stamp)
+
+-- So it is taken exactly if its own items are in range and K3's rules are kept.
+pub old-taken-exactly : (image : List ℕ) → length image ≡ oldSize → Taken image ↔ (OldInRange image × KeepsRulesOfK3 (loadedAt 0 image))
+old-taken-exactly image old = (
+  λ taken.
+      let rules = taken .rules in (
+        old-in-range-exactly image old .0 (taken .inRange),
+        record {
+          movingHaveOpen = rules .movingHaveOpen;
+          onIsWanted = rules .onIsWanted;
+          onHasGeneral = rules .onHasGeneral;
+          openHaveGeneral = rules .openHaveGeneral;
+          invalidHasCause = rules .invalidHasCause;
+        },
+      ),
+  λ h.
+      let rules = h .1 in
+      record {
+        inRange = old-in-range-exactly image old .1 (h .0);
+        rules =
+            record {
+              movingHaveOpen = rules .movingHaveOpen;
+              onIsWanted = rules .onIsWanted;
+              onHasGeneral = rules .onHasGeneral;
+              openHaveGeneral = rules .openHaveGeneral;
+              invalidHasCause = rules .invalidHasCause;
+              countsKeep = old-keeps-count-rules image old 0;
+            };
+      },
+)

@@ -50,7 +50,7 @@ use Rattle.image.specs.Items.{
 use Rattle.orders.specs.Timing.{oldest}
 use Rattle.image.specs.Images.{size, newItems, imageOf, loadedAt, loadOf}
 use Rattle.image.specs.Conditions.{AgesTo60000, CausesTo13, Allowed, AllBelow, AllBytes, Taken}
-use Rattle.image.proofs.Fours.{items-back, each-below, bytes-back, bytes-of-rest, bytes-length, items-length}
+use Rattle.image.proofs.Fours.{items-back, each-below, bytes-back, bytes-of-rest, bytes-length}
 use Rattle.image.proofs.Ranged.{UpTo, within-length, within-up-to, up-to-within, within-joined}
 use Rattle.image.proofs.Mirrors.{controller-back, counts-within, core-within as core-items-within, items-mirror}
 use Rattle.image.proofs.Strung.{items-of-length, sensors-length}

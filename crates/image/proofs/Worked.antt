@@ -5,7 +5,7 @@ use mathlib.Core.Path.{_≡_, refl}
 use lib.ListN.{replicate}
 use Rattle.common.specs.Case.{AllAsWanted}
 use Rattle.common.specs.Lists.{all}
-use Rattle.forms.specs.Forms.{withZeros, sensorsWidened, widened, inNewForm}
+use Rattle.forms.specs.Forms.{oldSize, withZeros, sensorsWidened, widened, inNewForm}
 use Rattle.voter.specs.Voting.{validChannels}
 use Rattle.voter.specs.Numbers.{numberOf, channelsAt}
 use Rattle.voter.specs.Counts.{oddWithCount, noOddOfTwo, noneOfInvalid}
@@ -29,7 +29,7 @@ use Rattle.image.specs.Items.{
   stateIn,
 }
 use Rattle.image.specs.Rules.{rules, rulesHold}
-use Rattle.image.specs.Images.{size, newItems, imageOf, fits, loadedAt, refusalOf}
+use Rattle.image.specs.Images.{size, newItems, imageOf, saveOf, fits, loadedAt, refusalOf}
 use Rattle.image.specs.declared.Fault.the-variants.{Item, Rule}
 use Rattle.image.specs.Faults.{firstOut, firstBroken, faultOf, allZero, isBlank}
 use Rattle.image.specs.Cases.{extendAge, doors, with, fresh, oldFresh, opening, extending, imageCases}
@@ -44,7 +44,7 @@ unfolding
     rules rulesHold movingHaveOpen
     all validChannels oddWithCount noOddOfTwo noneOfInvalid
     withZeros sensorsWidened widened inNewForm newItems
-    imageOf fits loadedAt refusalOf
+    imageOf saveOf fits loadedAt refusalOf
     fresh oldFresh opening extending imageCases
 as-worked = refl
 
@@ -71,3 +71,7 @@ rule-named = refl
 pub zeros-are-blank : isBlank (replicate size 0) ≡ true
 unfolding itemFrom itemsIn allZero isBlank
 zeros-are-blank = refl
+
+pub old-zeros-are-blank : isBlank (replicate oldSize 0) ≡ true
+unfolding itemFrom itemsIn allZero isBlank
+old-zeros-are-blank = refl

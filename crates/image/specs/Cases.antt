@@ -11,7 +11,7 @@ use Rattle.controller.specs.Start.{freshOf}
 use Rattle.sensors.specs.Items.{itemsPerSensor}
 use Rattle.image.specs.Xdr.{bytesOf, itemsIn}
 use Rattle.image.specs.Items.{firstOrder, itemCount}
-use Rattle.image.specs.Images.{imageOf, loadedAt, refusalOf}
+use Rattle.image.specs.Images.{imageOf, saveOf, loadedAt, refusalOf}
 
 -- ---- Items by their places, counted from 0
 
@@ -125,6 +125,10 @@ opening = with generalOn 1 (with openOn 1 (with doors 1 fresh))
 unfoldable pub extending : List ℕ
 extending = with generalOn 1 (with extendOn 1 (with doors 2 (with gears 1 fresh)))
 
+-- The fresh start saved into a buffer of so many bytes: the number, and the buffer.
+abbrev pub saved : ℕ → List ℕ
+saved room = let answer = saveOf (freshOf 1000) (replicate room 7) in answer .0 ∷ answer .1
+
 -- ---- The list
 
 -- Items, and what is given for the image of them: 0 taken, 10, 11.
@@ -138,6 +142,8 @@ imageCases =
     record { name = "most significant byte first"; gives = take 4 (imageOf (freshOf 1000)); wanted = 0 ∷ 0 ∷ 3 ∷ 232 ∷ [] } ∷
     record { name = "an old image is 204 bytes"; gives = length (bytesOf oldFresh) ∷ []; wanted = 204 ∷ [] } ∷
     record { name = "and loads with both at 0"; gives = itemsIn (imageOf (loadedAt 1000 (bytesOf oldFresh))); wanted = fresh } ∷
+    record { name = "saving, 8: a byte short"; gives = saved 347; wanted = 8 ∷ replicate 347 7 } ∷
+    record { name = "saving, the byte past it stays"; gives = saved 349; wanted = 0 ∷ (bytesOf fresh ++ 7 ∷ []) } ∷
     -- taken
     gives "a fresh start" fresh 0 ∷
     gives "doors OPENING, general_EV and open_EV on" opening 0 ∷
@@ -147,6 +153,7 @@ imageCases =
     gives "doors OPENING, general_EV off, cause 2" (with doors 1 (with cause 2 fresh)) 0 ∷
     gives "every item 0" (replicate itemCount 0) 0 ∷
     gives "an old image" oldFresh 0 ∷
+    gives "an old image, every item 0" (replicate 51 0) 0 ∷
     gives "channel 2 odd in 1 sample" (with (oddOf analogicalSwitch) 2 (with (countOf analogicalSwitch) 1 fresh)) 0 ∷
     gives "channel 3 odd in 2 samples" (with (oddOf circuitPressurized) 3 (with (countOf circuitPressurized) 2 fresh)) 0 ∷
     gives "channel 1 struck, the two differed in 2 samples" (with (voterOf circuitPressurized) 1 (with (countOf circuitPressurized) 2 fresh)) 0 ∷

@@ -72,6 +72,14 @@ pub record KeepsRules (s : State) : Type 0 where
   pub invalidHasCause : InvalidSensorHasCause s
   pub countsKeep : CountsKeepRules s
 
+-- Those of request K3 alone.
+pub record KeepsRulesOfK3 (s : State) : Type 0 where
+  pub movingHaveOpen : MovingGearsHaveDoorsOpen s
+  pub onIsWanted : OnIsWanted s
+  pub onHasGeneral : OnHasGeneral s
+  pub openHaveGeneral : OpenDoorsHaveGeneral s
+  pub invalidHasCause : InvalidSensorHasCause s
+
 -- Odd channels to 3 and counts to 2.
 abbrev pub CountsInRange : State → Type 0
 CountsInRange s = Each CountInRange (s .voters)

@@ -7,6 +7,7 @@ use mathlib.Core.List.{List, [], _∷_, _++_}
 use lib.Dec.{leb}
 use lib.ListN.{getD, take, drop}
 use Rattle.common.specs.Bits.{bit, isOne}
+use Rattle.forms.specs.Forms.{sensors as eighteen}
 use Rattle.voter.specs.declared.Voter.{Voter}
 use Rattle.sensors.specs.Items.{itemsPerSensor, sensorItems, sensorTops, sensorIn}
 use Rattle.sequence.specs.Moves.{place}
@@ -19,9 +20,9 @@ use Rattle.controller.specs.declared.State.{State}
 
 -- ---- How many there are
 
--- Sensors.
+-- Sensors: 18.
 abbrev pub sensorCount : ℕ
-sensorCount = 18
+sensorCount = eighteen
 
 -- Items of all sensors; they stand behind the last stamp.
 abbrev pub sensorWidth : ℕ

@@ -29,7 +29,7 @@ const ITEMS: usize = FIRST_ORDER + CORE;
 const FIRST_ORDER: usize = 1 + sensors::ITEMS * SENSORS;
 
 // So many sensors (`sensorCount`).
-const SENSORS: usize = 18;
+const SENSORS: usize = forms::SENSORS;
 
 // Items of the orders, on and age of five, and handle age, doors, gears, cause (`coreWidth`).
 const CORE: usize = 14;

@@ -13,7 +13,6 @@ use crate::ITEMS;
 use crate::SIZE;
 use crate::xdr;
 use orders::OLDEST;
-use voter::Voter;
 
 // The most that each item of the core may be: per order on and age, then handle age, doors, gears, cause.
 const CORE_TOPS: [u32; CORE] = [
@@ -59,7 +58,7 @@ pub(crate) fn first_out(image: &[u8]) -> usize
     k
 }
 
-// The most that item k may be: any stamp, the voter's tops over and over, then those of the core.
+// The most that item k may be: any stamp, a sensor's tops over and over, then those of the core.
 fn top(k: usize) -> u32
     requires { ⌜ k < itemCount ⌝ }
     ensures { λ r. ⌜ r ≡ itemAt tops k ⌝ }

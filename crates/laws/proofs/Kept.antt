@@ -1,5 +1,5 @@
--- The last stages of an accepted step leave an allowed controller. Only the doors under moving gears need the state before: the rest
--- is given by the rule for orders and by ages that stop at 60,000.
+-- The last stages of an accepted step leave an allowed controller. Only the doors under moving gears, and the counts, which the vote has kept,
+-- need the state before: the rest is given by the rule for orders and by ages that stop at 60,000.
 -- Assumes nothing.
 use Prim.Native.Nat.{ℕ, _≤_, zero-le}
 use native.Mathlib.Omega.{arith}

@@ -8,7 +8,6 @@ use Rattle.voter.specs.declared.Voter.{Voter}
 use Rattle.voter.specs.Voting.{freshWith}
 use Rattle.voter.specs.Counts.{CountKept}
 use Rattle.voter.proofs.Kept.{voted-is-kept}
-use Rattle.controller.specs.declared.State.{State}
 use Rattle.controller.specs.Votes.{votesAt, allVoted}
 use Rattle.controller.specs.Start.{freshVoters, freshOf}
 

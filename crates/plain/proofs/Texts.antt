@@ -4,10 +4,8 @@ use Prim.Native.Nat.{ℕ, _+_}
 use mathlib.Core.List.{List, [], _∷_, _++_, append-assoc}
 use mathlib.Core.Path.{_≡_}
 use Rattle.common.specs.Ascii.{ascii, lf}
-use Rattle.common.specs.Bits.{bit}
-use Rattle.common.specs.Decimal.{decimal, digit0}
+use Rattle.common.specs.Decimal.{decimal}
 use Rattle.voter.specs.declared.Voter.{Voter}
-use Rattle.voter.specs.Voting.{valueOf}
 use Rattle.voter.specs.Numbers.{numberOf}
 use Rattle.sequence.specs.declared.Place.{Place}
 use Rattle.orders.specs.declared.Order.{Order}

@@ -44,23 +44,12 @@ in-a-byte n h = mod-eq-of-lt h
 
 -- ---- A sensor
 
--- A sensor whose odd channel and count are in their ranges has as many items as are said, each in its range.
+-- A sensor has as many items as are said.
 pub as-many-items : (v : Voter) → length (sensorItems v) ≡ itemsPerSensor
 unfolding sensorItems
 as-many-items v = refl
 
-pub items-in-range : (v : Voter) → CountInRange v → SensorInRange (sensorItems v)
-unfolding sensorItems
-items-in-range v counted = record { long = refl; ranges = each }
-  where
-    each : (k : ℕ) → k < itemsPerSensor → getD (sensorItems v) k 0 ≤ getD sensorTops k 0
-    each zero h = number-to-4 v
-    each (suc zero) h = bit-to-1 (valueOf v)
-    each (suc (suc zero)) h = counted .odd
-    each (suc (suc (suc zero))) h = counted .count
-    each (suc (suc (suc (suc k)))) h = absurd (omega arith)
-
--- The sensor of its items is that sensor ..
+-- The sensor of its items is that sensor, where odd channel and count are in their ranges, ..
 pub sensor-mirror : (v : Voter) → CountInRange v → sensorIn (sensorItems v) ≡ v
 unfolding sensorIn sensorItems numberOf valueOf
 sensor-mirror v counted =
@@ -70,6 +59,18 @@ sensor-mirror v counted =
       in-a-byte (v .odd) (omega (arith, counted .odd)),
       in-a-byte (v .count) (omega (arith, counted .count)),
     )
+
+-- its items are in theirs, ..
+pub items-in-range : (v : Voter) → CountInRange v → SensorInRange (sensorItems v)
+unfolding sensorItems
+items-in-range v counted = record { long = refl; ranges = each }
+  where
+    each : (k : ℕ) → k < itemsPerSensor → getD (sensorItems v) k 0 ≤ getD sensorTops k 0
+    each zero h = number-to-4 v
+    each (suc zero) h = bit-to-1 (valueOf v)
+    each (suc (suc zero)) h = omega (arith, counted .odd)
+    each (suc (suc (suc zero))) h = omega (arith, counted .count)
+    each (suc (suc (suc (suc k)))) h = absurd (omega arith)
 
 -- .. and the items of the sensor of items in range are those items.
 pub items-mirror : (items : List ℕ) → SensorInRange items → sensorItems (sensorIn items) ≡ items

@@ -1,8 +1,6 @@
 -- `image::find_fault` meets its contract: what is no old image as it is, and an old one widened.
 -- Assumes nothing.
-use Prim.Native.Nat.{ℕ}
 use native.Mathlib.Omega.{arith}
-use mathlib.Core.List.{List}
 use mathlib.Core.Logic._⊎_.{inl}
 use mathlib.Core.Path.{ap, _∙_}
 use Rattle.image.specs.Faults.{faultOf}

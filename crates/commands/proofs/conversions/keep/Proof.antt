@@ -41,7 +41,7 @@ returns-2 c =
     λ t.
     let test = c .before .before .before .before .before .before in
     let done = test .before .before in
-    record { image = _; buffer = _; converted = sym (ap (λ (p : ℕ × List ℕ). p .0) (done .in-form .ensures)) ∙ test .if1 .left }
+    sym (ap (λ (p : ℕ × List ℕ). p .0) (done .in-form .ensures)) ∙ test .if1 .left
 
 returns-3 : tie.Need-returns-3
 returns-3 c = λ t. absurd t
