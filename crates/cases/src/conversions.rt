@@ -1,6 +1,6 @@
 // An image in both forms: NAME.img must be converted as NAME.new and NAME.old, or get the refusal that stands there, into a buffer and, by the
-// function that the program calls, into a file. A buffer that is a byte short gets 8, whatever the image is; one that is refused is as it was,
-// and the byte past a form stays; where a file is refused none is written.
+// function that the program calls, into a file. A buffer that is a byte short gets 8, whatever the image is; where a file is refused none is
+// written.
 use crate::files;
 use crate::parts;
 use commands::conversions;
@@ -15,58 +15,48 @@ const SAVED: [u8; 9] = *b"saved.img";
 pub(crate) fn case(name: &[u8]) -> bool {
     let mut image = [0u8; image::SIZE + 1];
     let n = files::read(name, b".img", &mut image);
-    to_new(name, &image[..n])
-        & to_old(name, &image[..n])
-        & files::both(name, b".img", b".new")
-        & files::both(name, b".img", b".old")
+    no_room(&image[..n]) & to_new(name, &image[..n]) & to_old(name, &image[..n]) & there(name)
+}
+
+// Whether buffers that are a byte short get 8, whatever the image is.
+fn no_room(image: &[u8]) -> bool {
+    let mut new = [7u8; forms::NEW - 1];
+    let mut old = [7u8; forms::OLD - 1];
+    (converting::to_new(image, &mut new) == 8) & (converting::to_old(image, &mut old) == 8)
 }
 
 // Whether an image is converted to the new form as stored.
 fn to_new(name: &[u8], image: &[u8]) -> bool {
-    let mut short = [7u8; forms::NEW - 1];
     let mut out = [7u8; forms::NEW + 1];
-    let eight = converting::to_new(image, &mut short);
     let refusal = converting::to_new(image, &mut out);
-    let no_room = (eight == 8) & check::same(&short, &[7u8; forms::NEW - 1]);
-    if refusal != 0 {
-        return no_room
-            & check::same(&out, &[7u8; forms::NEW + 1])
-            & refused(name, b".new", refusal);
-    }
-    no_room
-        & check::same(&out[forms::NEW..], b"\x07")
-        & stored(name, b".new", &out, forms::NEW)
-        & written(name, b".new", Form::New)
+    is_stored(name, b".new", refusal, &out, forms::NEW) & on_disk(name, b".new", refusal, Form::New)
 }
 
 // Whether it is converted to the old form as stored.
 fn to_old(name: &[u8], image: &[u8]) -> bool {
-    let mut short = [7u8; forms::OLD - 1];
     let mut out = [7u8; forms::OLD + 1];
-    let eight = converting::to_old(image, &mut short);
     let refusal = converting::to_old(image, &mut out);
-    let no_room = (eight == 8) & check::same(&short, &[7u8; forms::OLD - 1]);
-    if refusal != 0 {
-        return no_room
-            & check::same(&out, &[7u8; forms::OLD + 1])
-            & refused(name, b".old", refusal);
-    }
-    no_room
-        & check::same(&out[forms::OLD..], b"\x07")
-        & stored(name, b".old", &out, forms::OLD)
-        & written(name, b".old", Form::Old)
+    is_stored(name, b".old", refusal, &out, forms::OLD) & on_disk(name, b".old", refusal, Form::Old)
 }
 
-// Whether the first bytes, as many as the form has, are what is stored.
-fn stored(name: &[u8], ending: &[u8], bytes: &[u8], size: usize) -> bool {
+// Whether what is stored is the refusal, or the first bytes, as many as the form has.
+fn is_stored(name: &[u8], ending: &[u8], refusal: u8, out: &[u8], size: usize) -> bool {
     let mut kept = [0u8; forms::NEW + 1];
     let n = files::read(name, ending, &mut kept);
-    parts::is_all(&kept[..n], 0, bytes, size)
+    if refusal == 0 {
+        return parts::is_all(&kept[..n], 0, out, size);
+    }
+    parts::refused(refusal, &kept[..n])
 }
 
-// Whether the file that is written is what is stored.
-fn written(name: &[u8], ending: &[u8], form: Form) -> bool {
-    converted(name, form) & files::same(&SAVED, name, ending)
+// Whether the file that is written is what is stored, and none is where it is refused.
+fn on_disk(name: &[u8], ending: &[u8], refusal: u8, form: Form) -> bool {
+    let saved = converted(name, form);
+    let same = files::same(&SAVED, name, ending);
+    if refusal == 0 {
+        return saved & same;
+    }
+    !saved
 }
 
 // Converts file to file, and answers whether one stands there.
@@ -77,12 +67,10 @@ fn converted(name: &[u8], form: Form) -> bool {
     let to = os::open_overwrite(&OUT);
     let answer = conversions::convert(to, &SAVED, &path[..n], form);
     libc::close(to);
-    answer.saved & files::both(&SAVED, b"", b"")
+    answer.saved | files::both(&SAVED, b"", b"")
 }
 
-// Whether this refusal is what is stored.
-fn refused(name: &[u8], ending: &[u8], refusal: u8) -> bool {
-    let mut kept = [0u8; forms::NEW + 1];
-    let n = files::read(name, ending, &mut kept);
-    parts::refused(refusal, &kept[..n])
+// Whether the files of a case are there.
+fn there(name: &[u8]) -> bool {
+    files::both(name, b".img", b".new") & files::both(name, b".img", b".old")
 }

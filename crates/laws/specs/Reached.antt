@@ -1,5 +1,5 @@
--- Every state that the controller can come to: a fresh start or a taken image of either form (requests K3 and K6), and from there any samples at any stamps,
--- refused ones among them, and any new start stamps.
+-- Every state that the controller can come to: a fresh start or a taken image of either form (requests K3 and K6), and from there any samples
+-- at any stamps, refused ones among them, and any new start stamps.
 -- Assumes nothing.
 use mathlib.Core.List.{List}
 use Prim.Native.Nat.{ℕ}
