@@ -11,7 +11,7 @@ use crate::rules::Rules;
 pub type Stored = (&'static str, &'static str, Vec<u8>);
 
 /// Traces with their dump, and what that is for.
-pub const DUMPS_OF_TRACES: [(&str, &str); 34] = [
+pub const DUMPS_OF_TRACES: [(&str, &str); 36] = [
     ("session_s", "Session S: a 3 and a 4 add no time"),
     ("lesson", "a long lesson; the stamp goes round in it, time does not"),
     ("lamps_green_and_orange", "doors, then gears leave; orders, lamps and sensors change together"),
@@ -36,6 +36,8 @@ pub const DUMPS_OF_TRACES: [(&str, &str); 34] = [
         "two bounces in a row, another channel right behind them: the dump of the clean one",
     ),
     ("lesson_clean", "the same lesson with no bounce: the same dump"),
+    ("ground_doors_opening", "each absorber by itself, and what the doors' orders do at once"),
+    ("ground_invalid", "an absorber that is invalid keeps its 1, red is latched"),
     ("adversarial_0", "many wires change at once"),
     ("stall", "far stalls; an accepted row after many refused ones"),
     ("stalls_0", "elapsed at and past its ends"),

@@ -105,6 +105,131 @@ impl Tape {
     }
 }
 
+/// What the absorbers do in a trace.
+#[derive(Clone, Copy, PartialEq)]
+enum Story {
+    /// The rig is in the air.
+    Flies,
+    /// It stands, lifts and touches, after a while or where the sequence comes to a stage.
+    Lands,
+    /// It stands, on some wheels or on all, now and then for long.
+    Stands,
+    /// It touches and lifts again and again, and then rests.
+    Bounces,
+    /// They are drawn with all else.
+    Drawn,
+}
+
+/// What a turn of the story waits for.
+#[derive(Clone, Copy)]
+enum Until {
+    Later,
+    Handle(bool),
+    Doors(Doors),
+    Gears(Gears),
+}
+
+/// The absorbers of a trace. They are drawn from a seed of their own, so that all else is drawn as if there were none.
+pub struct Wheels {
+    r: Rng,
+    story: Story,
+    /// Those that say ground: front, left, right from the lowest bit.
+    on: u32,
+    until: Until,
+    /// How many ms it is waited at most.
+    left: u64,
+    bounces: u64,
+}
+
+impl Wheels {
+    /// Of a trace that is drawn from here on, in flight so many times in a thousand.
+    fn of(r: &Rng, flies: u64) -> Wheels {
+        let mut wheels = Wheels { r: Rng::new(r.0 ^ 0x6B37), ..Wheels::in_flight() };
+        if !wheels.r.permille(flies) {
+            let stories =
+                [Story::Lands, Story::Lands, Story::Lands, Story::Stands, Story::Bounces, Story::Drawn];
+            wheels.story = wheels.r.pick(&stories);
+            wheels.turn();
+        }
+        wheels
+    }
+
+    /// Of a trace without ground: what is stored from before K7, and long lessons.
+    pub fn in_flight() -> Wheels {
+        Wheels { r: Rng::new(0), story: Story::Flies, on: 0, until: Until::Later, left: 0, bounces: 0 }
+    }
+
+    /// Some wheels: all, one, or any.
+    fn some(&mut self) -> u32 {
+        match self.r.below(5) {
+            0 | 1 => 0b111,
+            2 | 3 => 1 << self.r.below(3),
+            _ => self.r.range(1, 7) as u32,
+        }
+    }
+
+    /// The story goes on.
+    fn turn(&mut self) {
+        use {Doors::*, Gears::*};
+        let stood = self.on != 0;
+        self.on = match self.story {
+            Story::Flies | Story::Drawn => return,
+            // Often one wheel after the other.
+            Story::Lands if stood && self.r.permille(300) => self.on & self.r.below(8) as u32,
+            Story::Lands if !stood && self.r.permille(300) => 0,
+            Story::Stands if self.r.permille(700) => self.some(),
+            _ if stood => 0,
+            _ => self.some(),
+        };
+        self.bounces = match (self.story, self.bounces) {
+            (Story::Bounces, 0) => self.r.range(2, 60),
+            (Story::Bounces, more) => more - 1,
+            _ => 0,
+        };
+        // Those that are soon over stand here more often.
+        let stages = [
+            Until::Handle(true),
+            Until::Handle(false),
+            Until::Doors(Opening),
+            Until::Doors(Opening),
+            Until::Doors(Open),
+            Until::Doors(Open),
+            Until::Doors(Open),
+            Until::Doors(Closing),
+            Until::Doors(Closed),
+            Until::Gears(Retracting),
+            Until::Gears(Retracting),
+            Until::Gears(Retracted),
+            Until::Gears(Extending),
+        ];
+        (self.until, self.left) = match self.story {
+            Story::Bounces if self.bounces > 0 => (Until::Later, self.r.pick(&[1, 1, 50, 150, 300, 800])),
+            Story::Bounces => (Until::Later, self.r.range(2_000, 30_000)),
+            Story::Stands => (Until::Later, self.r.range(1_000, 30_000)),
+            _ if self.r.permille(300) => (Until::Later, self.r.range(1, 1_500)),
+            _ => (self.r.pick(&stages), self.r.range(500, if self.on == 0 { 20_000 } else { 5_000 })),
+        };
+    }
+
+    /// What the absorbers say `elapsed` ms after the last step; `drawn` is what they would, were there no story.
+    fn see(&mut self, rig: &Rig, elapsed: u64, drawn: u32) -> u32 {
+        if self.story == Story::Drawn {
+            return drawn & ON_GROUND;
+        }
+        let there = match self.until {
+            Until::Later => false,
+            Until::Handle(down) => (rig.held & HANDLE != 0) == down,
+            Until::Doors(doors) => rig.doors == doors,
+            Until::Gears(gears) => rig.gears == gears,
+        };
+        self.left = self.left.saturating_sub(elapsed);
+        if there || self.left == 0 {
+            self.turn();
+        }
+        self.on << ON_GROUND.trailing_zeros()
+    }
+}
+
 /// Doors and gears that move at a speed while their order is on and there is pressure.
 struct Plant {
     /// Three doors (0 closed), three gears (0 retracted), in ms of travel.
@@ -114,6 +239,8 @@ struct Plant {
     rise: u64,
     fall: u64,
     switch: (u64, u64),
+    /// The absorbers by their story, and as they are drawn with all else.
+    wheels: Wheels,
     ground: u32,
     down: bool,
     next_move: i64,
@@ -121,6 +248,7 @@ struct Plant {
 
 impl Plant {
     fn new(r: &mut Rng) -> Plant {
+        let wheels = Wheels::of(r, 400);
         let mut travel = [0; 6];
         travel[..3].fill_with(|| r.range(600, 3_000));
         travel[3..].fill_with(|| r.range(1_500, 5_500));
@@ -133,6 +261,7 @@ impl Plant {
             rise: r.range(50, 1_500),
             fall: r.range(100, 6_000),
             switch: (r.range(0, 800), r.range(20_000, 21_300)),
+            wheels,
             ground: 0,
             down: true,
             next_move: r.range(50, 4_000) as i64,
@@ -169,7 +298,8 @@ impl Plant {
         } else if !rig.is_on(GENERAL) && rig.age(GENERAL) + elapsed >= self.fall {
             self.pressed = false;
         }
-        let mut seen = self.ground << 8 | u32::from(self.down);
+        let ground = self.wheels.see(rig, elapsed, self.ground << ON_GROUND.trailing_zeros());
+        let mut seen = ground | u32::from(self.down);
         for unit in 0..6 {
             let (out, back, zero, full) = match unit {
                 0..=2 => (OPEN, CLOSE, 11, 14),
@@ -220,12 +350,14 @@ impl From<(u64, u64)> for Pace {
 
 const AT_REST: u32 = HANDLE | GEAR_EXTENDED | DOOR_CLOSED;
 
-/// Lessons with a plausible plant; `rows` given, the plant is sound and nothing latches.
+/// Lessons with a plausible plant; `rows` given, the plant is sound, it is in the air, and nothing latches.
 pub fn nominal(r: &mut Rng, rows: Option<u64>) -> Tape {
     let mut plant = Plant::new(r);
     let pace = Pace::new(r);
     let count = rows.unwrap_or_else(|| r.range(100, 2_500));
-    if rows.is_none() && r.permille(200) {
+    if rows.is_some() {
+        plant.wheels = Wheels::in_flight();
+    } else if r.permille(200) {
         plant.damage(r);
     }
     let mut tape = Tape::new(r.stamp(), same(AT_REST));
@@ -244,12 +376,13 @@ pub fn lesson(rows: u64) -> Tape {
     let mut r = Rng::new(2014);
     let mut plant = Plant::new(&mut r);
     plant.next_move = 2_000;
+    plant.wheels = Wheels::in_flight();
     let mut tape = Tape::new(4_294_950_000, same(AT_REST));
     let mut moves = 0;
     while tape.rows < rows {
         let elapsed = r.range(10, 20);
         let was = plant.down;
-        let seen = plant.see(&mut r, &tape.rig, elapsed) & !ON_GROUND;
+        let seen = plant.see(&mut r, &tape.rig, elapsed);
         if plant.down != was {
             moves += 1;
             plant.next_move = if moves == 1 { 25_000 } else { i64::MAX };
@@ -262,6 +395,7 @@ pub fn lesson(rows: u64) -> Tape {
 /// Sensors that say anything; most samples that would latch the anomaly are drawn again. From a fresh
 /// start, or from a controller as it stands but for its stamp.
 pub fn adversarial(r: &mut Rng, from: Option<&Rig>) -> Tape {
+    let mut wheels = Wheels::of(r, 400);
     let count = r.range(20, 600);
     let pace = Pace::new(r);
     let patience = r.pick(&[0, 900, 990, 998, 1000]);
@@ -280,6 +414,7 @@ pub fn adversarial(r: &mut Rng, from: Option<&Rig>) -> Tape {
             bounce.next(r);
         }
         let (mut next, mut sample) = (seen, same(seen));
+        let ground = wheels.see(&tape.rig, elapsed, 0);
         for attempt in 0..30 {
             next = seen;
             for _ in 0..r.below(flips + 1) {
@@ -298,6 +433,9 @@ pub fn adversarial(r: &mut Rng, from: Option<&Rig>) -> Tape {
             }
             if attempt > 3 {
                 next = repair(&tape.rig, elapsed, next, attempt > 15);
+            }
+            if wheels.story != Story::Drawn {
+                next = next & !ON_GROUND | ground;
             }
             sample = match from {
                 Some(_) if tape.rows < on => bounced(&tape.rig, next),
@@ -661,16 +799,16 @@ impl Script {
 const MARKS: [u64; 11] = [100, 200, 1_000, 2_000, 7_000, 10_000, 20_000, 21_500, 60_000, 300, 500];
 
 /// Ages driven to both sides of every threshold, with steps that land there exactly.
-pub fn edges(r: &mut Rng) -> Tape {
+pub fn edges(r: &mut Rng, wheels: Wheels) -> Tape {
     if r.permille(500) {
-        focused(r)
+        focused(r, wheels)
     } else {
-        wandering(r)
+        wandering(r, wheels)
     }
 }
 
 /// One threshold: everything is brisk but what that one is about.
-fn focused(r: &mut Rng) -> Tape {
+fn focused(r: &mut Rng, mut wheels: Wheels) -> Tape {
     let mut s = Script::new(r.stamp());
     let focus = r.below(13);
     let (clock, mark) = [
@@ -719,13 +857,15 @@ fn focused(r: &mut Rng) -> Tape {
             [] => 100,
             _ => r.pick(&lands),
         };
-        s.step(elapsed);
+        let ground = wheels.see(&s.tape.rig, elapsed, 0);
+        let seen = s.look(elapsed) | ground;
+        s.tape.after(elapsed, same(seen));
         after_red -= u64::from(s.tape.red());
     }
     s.tape
 }
 
-fn wandering(r: &mut Rng) -> Tape {
+fn wandering(r: &mut Rng, mut wheels: Wheels) -> Tape {
     let count = r.range(100, 900);
     let risk = r.pick(&[20, 60, 150]);
     let mut script = Script::new(r.stamp());
@@ -802,7 +942,8 @@ fn wandering(r: &mut Rng) -> Tape {
             0..=17 => 100,
             _ => r.range(1, 100),
         };
-        let mut seen = script.look(elapsed);
+        let ground = wheels.see(&script.tape.rig, elapsed, 0);
+        let mut seen = script.look(elapsed) | ground;
         if r.permille(10) {
             let odd = seen ^ 1 << r.range(2, 17);
             if !script.tape.would_be_red(elapsed, same(odd)) {
@@ -1048,7 +1189,10 @@ pub fn trace(seed: u64, kind: &str, rows: Option<u64>) -> Option<Vec<u8>> {
         "adversarial" => adversarial(r, None).text,
         "channels" => channels(r).text,
         "stalls" => stalls(r).text,
-        "edges" => edges(r).text,
+        "edges" => {
+            let wheels = Wheels::of(r, 600);
+            edges(r, wheels).text
+        }
         "damaged" => damaged(r),
         _ => return None,
     })

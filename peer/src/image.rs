@@ -265,6 +265,7 @@ impl Image {
             gears: self.gears(r),
             cause: if r.is(Slip::CauseLost) { 0 } else { self.cause as u8 },
             aside: held,
+            stood: false,
         }
     }
 

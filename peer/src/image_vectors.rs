@@ -1,16 +1,17 @@
-//! Stored vectors of requests K3 and K6: which traces have their image stored, images from which a trace goes on,
+//! Stored vectors of requests K3, K6 and K7: which traces have their image stored, images from which a trace goes on,
 //! images of every kind, good ones and one for each way of being wrong, and images in both forms, so that every fault
 //! of `rules::image_faults` changes at least one of what is stored. What was stored before K6 is in the old form.
 
 use crate::dump_vectors::Stored;
 use crate::gen::{cut, field, same, Script, Tape, Travel};
+use crate::ground_vectors;
 use crate::image::{Form, Image, Item};
 use crate::rig::*;
 use crate::rules::Rules;
 use crate::vectors::{handle_up, one, session_s, started, NEVER};
 
 /// Traces with their image; where it is marked, with the image in words too; and what that is for.
-pub const IMAGES_OF_TRACES: [(&str, bool, &str); 26] = [
+pub const IMAGES_OF_TRACES: [(&str, bool, &str); 27] = [
     ("session_s", true, "Session S: doors OPEN, gears EXTENDING with their order on; a 3 and a 4 in it"),
     ("lesson", true, "a long lesson; the stamp goes round in it; every age by itself"),
     ("edge_cause_1", true, "cause 1; doors OPENING and general_EV off"),
@@ -47,6 +48,11 @@ pub const IMAGES_OF_TRACES: [(&str, bool, &str); 26] = [
         "two bounces in a row, another channel right behind them: the image of the clean one",
     ),
     ("lesson_clean", false, "the same lesson with no bounce: the same image"),
+    (
+        "ground_invalid",
+        true,
+        "cause 13: an absorber invalid and held at 1, with the handle up, gears EXTENDED, doors CLOSED",
+    ),
     ("image_ages", false, "general_EV's age is 59,999, the handle's was longer and stopped at 60,000"),
     ("image_torn", false, "the last row is torn, the one before it gets 4: the image of the row before"),
     ("bad_row_512_cr", false, "row 0, then a 6: the image of a fresh start"),
@@ -250,6 +256,7 @@ pub fn onwards() -> Vec<Onward> {
         image,
         trace,
     );
+    all.extend(ground_vectors::onwards());
     all
 }
 
@@ -325,7 +332,7 @@ fn in_a_bounce(struck: bool, count: usize) -> (Vec<u8>, Vec<u8>) {
 }
 
 /// The image of a script's controller in the new form, and the script that goes on from it at a stamp.
-fn handed_new(s: &Script, stamp: u32) -> (Vec<u8>, Script) {
+pub(crate) fn handed_new(s: &Script, stamp: u32) -> (Vec<u8>, Script) {
     let rules = Rules::default();
     let image = Image::of(&rules, &s.tape.rig);
     (image.bytes(&rules), Script::onward(image.start(&rules, stamp)))

@@ -1,4 +1,4 @@
-//! A second, independent implementation of document 01 with change requests K1 to K5, for differential tests.
+//! A second, independent implementation of document 01 with change requests K1 to K7, for differential tests.
 #![forbid(unsafe_code)]
 
 pub mod cli;
@@ -6,6 +6,7 @@ pub mod damage;
 pub mod dump;
 pub mod dump_vectors;
 pub mod gen;
+pub mod ground_vectors;
 pub mod handover;
 pub mod image;
 pub mod image_gen;

@@ -1,10 +1,12 @@
-//! The page of K4 read by what it shows, and held to the peer's own sequence: which place stands in which
-//! row and column, and what is told there.
+//! The page of K4 and K7 read by what it shows, and held to the peer's own sequence: which place stands under which
+//! handle, in which row and column, and what is told there. A place of the ground that is not shown is read off its
+//! place in the air.
 
 use crate::rig::{Doors, Gears};
 use crate::rules::Rules;
 use crate::svg::{number, numbers, read, Node};
-use crate::wall::{aim, place_words, possible, rows, table_number, word, Entry, DOORS, FACTS, GEARS, PLACES};
+use crate::wall::{aim, as_if_aim, place_words, possible, rows, shown_of_ground, table_number, word};
+use crate::wall::{Entry, DOORS, FACTS, GEARS, IN_AIR, PLACES};
 
 /// What disagrees, and at which place, if it is of one.
 #[derive(Clone, PartialEq, Eq, Debug)]
@@ -69,17 +71,47 @@ struct Drawn {
 /// What a heading is of.
 #[derive(Clone, Copy, PartialEq, Debug)]
 enum Head {
-    Handle(bool),
+    Handle(Handle),
     Doors(Doors),
     Gears(Gears),
+}
+
+/// A handle, in the air or on the ground.
+#[derive(Clone, Copy, PartialEq, Eq, PartialOrd, Ord, Debug)]
+struct Handle {
+    ground: bool,
+    down: bool,
+}
+
+impl std::fmt::Display for Handle {
+    fn fmt(&self, f: &mut std::fmt::Formatter<'_>) -> std::fmt::Result {
+        let ground = if self.ground { " on ground" } else { "" };
+        write!(f, "handle {}{ground}", if self.down { "DOWN" } else { "UP" })
+    }
+}
+
+/// What is said beside a handle.
+#[derive(Clone, Copy, PartialEq, Debug)]
+enum Aim {
+    At(Gears),
+    AsIf(Gears),
+}
+
+impl std::fmt::Display for Aim {
+    fn fmt(&self, f: &mut std::fmt::Formatter<'_>) -> std::fmt::Result {
+        match *self {
+            Aim::At(gears) => write!(f, "aims at {}", word(gears)),
+            Aim::AsIf(gears) => write!(f, "acts as if gears {} were at the aim", word(gears)),
+        }
+    }
 }
 
 /// A page as it is drawn.
 #[derive(Default)]
 struct Page {
     heads: Vec<(Head, Point)>,
-    /// What is said beside a handle that it aims at, and of the table's number.
-    aims: Vec<(Gears, Point)>,
+    /// What is said of an aim, and of the table's number.
+    aims: Vec<(Aim, Point)>,
     numbers: Vec<(u64, Point)>,
     places: Vec<Drawn>,
     style: String,
@@ -158,9 +190,10 @@ impl Page {
                     if node.has_class("handle") || node.has_class("head") {
                         self.heads.push((head(node)?, at));
                     } else if node.has_class("aim") {
-                        self.aims.push((told_after(node, "aims at ", gears_word)?, at));
+                        self.aims.push((told(node, aim_words)?, at));
                     } else if node.has_class("table") {
-                        self.numbers.push((told_after(node, "table number ", plain_number)?, at));
+                        let number = |text: &str| text.strip_prefix("table number ").and_then(plain_number);
+                        self.numbers.push((told(node, number)?, at));
                     } else if let Some(class) = INSIDE.iter().find(|class| node.has_class(class)) {
                         return Err(format!("a text of class {class} stands in no place: {}", node.words()));
                     }
@@ -275,9 +308,12 @@ fn gears_word(text: &str) -> Option<Gears> {
 fn head(node: &Node) -> Result<Head, String> {
     let words = node.words();
     let known = match (node.has_class("handle"), &words[..]) {
-        (true, "Handle UP") => Some(Head::Handle(false)),
-        (true, "Handle DOWN") => Some(Head::Handle(true)),
-        (true, _) => None,
+        (true, text) => {
+            let (text, ground) = text.strip_suffix(", on ground").map_or((text, false), |text| (text, true));
+            let handles = [("Handle UP", false), ("Handle DOWN", true)];
+            let handle = handles.into_iter().find(|handle| handle.0 == text);
+            handle.map(|(_, down)| Head::Handle(Handle { ground, down }))
+        }
         (false, text) => doors_word(text.strip_prefix("doors ").unwrap_or(text))
             .map(Head::Doors)
             .or_else(|| gears_word(text.strip_prefix("gears ").unwrap_or(text)).map(Head::Gears)),
@@ -290,11 +326,18 @@ fn plain_number(text: &str) -> Option<u64> {
     text.parse().ok().filter(|n: &u64| n.to_string() == text)
 }
 
-/// What a text tells behind these words.
-fn told_after<T>(node: &Node, before: &str, known: fn(&str) -> Option<T>) -> Result<T, String> {
+fn aim_words(text: &str) -> Option<Aim> {
+    let as_if = |text: &str| text.strip_suffix(" were at the aim").and_then(gears_word).map(Aim::AsIf);
+    match text.strip_prefix("aims at ") {
+        Some(text) => gears_word(text).map(Aim::At),
+        None => text.strip_prefix("acts as if gears ").and_then(as_if),
+    }
+}
+
+/// What a text tells, by those who know.
+fn told<T>(node: &Node, known: impl Fn(&str) -> Option<T>) -> Result<T, String> {
     let words = node.words();
-    let told = words.strip_prefix(before).and_then(known);
-    told.ok_or_else(|| format!("'{words}' is not understood"))
+    known(&words).ok_or_else(|| format!("'{words}' is not understood"))
 }
 
 /// What a place tells of doors and gears: nothing for `stays`, else each with whether it is told as a move.
@@ -397,56 +440,77 @@ impl Page {
         Ok(Read { place, fact, then, other })
     }
 
-    /// The place where it stands: the nearest handle above, the gears of its column, the doors of its row.
+    /// The place where it stands: the nearest handle above, and below that the headings of its column and of its row,
+    /// one of doors and one of gears.
     fn stands(&self, drawn: &Drawn) -> Result<usize, String> {
         let area = drawn.extent().ok_or("a place is empty")?;
         let at = format!("the place at {} {}", area.low.x, area.low.y);
         let above = |p: Point| (p.y <= area.low.y).then_some(area.low.y - p.y);
         let left = |p: Point| (p.x <= area.low.x).then_some(area.low.x - p.x);
-        let mut handle: Vec<(bool, f64)> = Vec::new();
-        let mut doors: Vec<(Doors, f64)> = Vec::new();
-        let mut gears: Vec<(Gears, f64)> = Vec::new();
+        let handles = self.handles().into_iter();
+        let handles: Vec<((Handle, f64), f64)> =
+            handles.filter_map(|(handle, p)| Some(((handle, p.y), above(p)?))).collect();
+        let (handle, top) = nearest(&handles).ok_or_else(|| format!("{at} is headed by no one handle"))?;
+        let mut columns: Vec<(Head, f64)> = Vec::new();
+        let mut rows: Vec<(Head, f64)> = Vec::new();
         for &(head, p) in &self.heads {
-            match head {
-                Head::Handle(down) => handle.extend(above(p).map(|far| (down, far))),
-                Head::Gears(word) if (area.low.x..area.high.x).contains(&p.x) => {
-                    gears.extend(above(p).map(|far| (word, far)));
-                }
-                Head::Doors(word) if (area.low.y..area.high.y).contains(&p.y) => {
-                    doors.extend(left(p).map(|far| (word, far)));
-                }
-                _ => {}
+            if matches!(head, Head::Handle(_)) || p.y < top {
+                continue;
+            }
+            if (area.low.x..area.high.x).contains(&p.x) {
+                columns.extend(above(p).map(|far| (head, far)));
+            }
+            if (area.low.y..area.high.y).contains(&p.y) {
+                rows.extend(left(p).map(|far| (head, far)));
             }
         }
-        let down = nearest(&handle).ok_or_else(|| format!("{at} is headed by no one handle"))?;
-        let gears =
-            nearest(&gears).ok_or_else(|| format!("{at} is in the column of no one gears heading"))?;
-        let doors = nearest(&doors).ok_or_else(|| format!("{at} is in the row of no one doors heading"))?;
-        Ok(Entry { down, doors, gears, facts: [false; 4] }.number() / 16)
+        let column = nearest(&columns).ok_or_else(|| format!("{at} is in the column of no one heading"))?;
+        let row = nearest(&rows).ok_or_else(|| format!("{at} is in the row of no one heading"))?;
+        let Handle { ground, down } = handle;
+        match (column, row) {
+            (Head::Gears(gears), Head::Doors(doors)) | (Head::Doors(doors), Head::Gears(gears)) => {
+                Ok(Entry { ground, down, doors, gears, facts: [false; 4] }.number() / 16)
+            }
+            _ => Err(format!("{at} is in the column of {column:?} and in the row of {row:?}")),
+        }
     }
 
-    /// Handle UP above DOWN; the headings of each line and of each side in the order of their numbers.
-    fn order(&self) -> Option<String> {
-        let handles = self.heads.iter().filter(|head| matches!(head.0, Head::Handle(_)));
-        let handles: Vec<&(Head, Point)> = handles.collect();
-        let [(first, p), (second, q)] = handles[..] else {
-            return Some(format!("{} handle headings, not 2", handles.len()));
+    /// The headings of the handle.
+    fn handles(&self) -> Vec<(Handle, Point)> {
+        let handle = |head: &(Head, Point)| match head.0 {
+            Head::Handle(handle) => Some((handle, head.1)),
+            _ => None,
         };
-        if first == second || (p.y < q.y) != (*first == Head::Handle(false)) {
-            return Some("handle UP does not stand above handle DOWN".into());
+        self.heads.iter().filter_map(handle).collect()
+    }
+
+    /// Handle UP above DOWN, below them those of the ground that have a place to show; the headings of each line and of
+    /// each side in the order of their numbers.
+    fn order(&self, r: &Rules) -> Option<String> {
+        let of_ground = shown_of_ground(r).into_iter().map(|place| Entry::of(16 * place));
+        let mut wanted: Vec<Handle> =
+            of_ground.map(|Entry { ground, down, .. }| Handle { ground, down }).collect();
+        wanted.extend([false, true].map(|down| Handle { ground: false, down }));
+        wanted.sort();
+        wanted.dedup();
+        let mut handles = self.handles();
+        handles.sort_by(|a, b| a.1.y.total_cmp(&b.1.y));
+        let found: Vec<Handle> = handles.iter().map(|handle| handle.0).collect();
+        if found != wanted {
+            let list =
+                |handles: &[Handle]| handles.iter().map(Handle::to_string).collect::<Vec<_>>().join(", ");
+            return Some(format!("the headings are {}, not {}", list(&found), list(&wanted)));
         }
-        let middle = p.y.max(q.y);
-        let block = |p: &Point| p.y >= middle;
+        let block = |p: &Point| handles.iter().filter(|handle| handle.1.y <= p.y).count();
         for (a, p) in &self.heads {
             for (b, q) in &self.heads {
-                let wrong = match (a, b) {
-                    (Head::Gears(a), Head::Gears(b)) => p.y == q.y && (*a as u8) < *b as u8 && p.x >= q.x,
-                    (Head::Doors(a), Head::Doors(b)) => {
-                        block(p) == block(q) && (*a as u8) < *b as u8 && p.y >= q.y
-                    }
+                let rising = match (a, b) {
+                    (Head::Gears(a), Head::Gears(b)) => (*a as u8) < *b as u8,
+                    (Head::Doors(a), Head::Doors(b)) => (*a as u8) < *b as u8,
                     _ => false,
                 };
-                if wrong {
+                let behind = if p.y == q.y { p.x >= q.x } else { p.y > q.y };
+                if rising && behind && block(p) == block(q) {
                     return Some(format!("the headings {a:?} and {b:?} stand in the wrong order"));
                 }
             }
@@ -456,19 +520,23 @@ impl Page {
 }
 
 impl Page {
-    /// Beside each handle, at its height, stands what it aims at, and nowhere else.
+    /// Beside each handle, at its height, stands what it aims at, or on the ground acts as if, and nowhere else.
     fn aimed(&self, r: &Rules) -> Option<String> {
-        for (head, p) in &self.heads {
-            let Head::Handle(down) = *head else { continue };
-            let handle = if down { "DOWN" } else { "UP" };
+        for (handle, p) in self.handles() {
+            let own = match handle.ground {
+                false => aim(r, handle.down).map(Aim::At),
+                true => as_if_aim(r, handle.down).map(Aim::AsIf),
+            };
             let beside = self.aims.iter().filter(|(_, q)| q.y == p.y && q.x > p.x);
-            match beside.map(|told| told.0).collect::<Vec<_>>()[..] {
-                [told] if Some(told) == aim(r, down) => {}
-                [told] => return Some(format!("handle {handle} does not aim at {}", word(told))),
-                ref told => return Some(format!("{} aims beside handle {handle}, not 1", told.len())),
+            match (&beside.map(|told| told.0).collect::<Vec<_>>()[..], own) {
+                ([], None) => {}
+                ([told], Some(own)) if *told == own => {}
+                ([told], _) => return Some(format!("{handle}: it is not so that it {told}")),
+                (told, _) => return Some(format!("{} aims beside {handle}, not 1", told.len())),
             }
         }
-        (self.aims.len() > 2).then(|| format!("{} aims, not 2", self.aims.len()))
+        let (aims, handles) = (self.aims.len(), self.handles().len());
+        (aims > handles).then(|| format!("{aims} aims, not {handles}"))
     }
 
     /// The table's number is there once, and is that of the peer's own sequence.
@@ -528,22 +596,27 @@ fn disagrees(r: &Rules, place: usize, read: &Read) -> Vec<String> {
         }
     }
     // Sets of facts.
-    let differ = (0..16).filter(|&n| {
-        let entry = Entry::of(16 * place + n);
-        let holds = read.fact.is_none_or(|fact| entry.facts[fact]);
-        let told = if holds { Some(read.then) } else { read.other };
-        told.map(|told| told.map_or((doors, gears), |(d, g)| (d.0, g.0))) != Some(entry.next(r))
-    });
-    let differ: Vec<usize> = differ.collect();
+    let differ = told_wrong(r, place, read);
     if let Some(first) = differ.first() {
-        let number = 16 * place + first;
-        let (doors, gears) = Entry::of(number).next(r);
+        let (doors, gears) = Entry::of(*first).next(r);
         let (doors, gears) = (word(doors), word(gears));
         let count = differ.len();
-        let first = format!("the first, {number}, is doors {doors}, gears {gears}");
+        let first = format!("the first, {first}, is doors {doors}, gears {gears}");
         wrong.push(format!("{count} of its 16 entries are told wrong; {first}"));
     }
     wrong
+}
+
+/// The entries of a place of which something else is told than the rule there.
+fn told_wrong(r: &Rules, place: usize, read: &Read) -> Vec<usize> {
+    let wrong = |&number: &usize| {
+        let entry = Entry::of(number);
+        let holds = read.fact.is_none_or(|fact| entry.facts[fact]);
+        let told = if holds { Some(read.then) } else { read.other };
+        let stays = (entry.doors, entry.gears);
+        told.map(|told| told.map_or(stays, |(doors, gears)| (doors.0, gears.0))) != Some(entry.next(r))
+    };
+    (16 * place..16 * place + 16).filter(wrong).collect()
 }
 
 /// All that the page of the other side has wrong.
@@ -553,8 +626,9 @@ pub fn check(r: &Rules, page: &[u8]) -> Vec<Wrong> {
         Err(reason) => return vec![Wrong { place: None, reason }],
     };
     let mut wrong = Vec::new();
-    let mut times = [0; PLACES];
-    let of_all = [page.order(), page.aimed(r), page.numbered(r)];
+    let mut times = [0usize; PLACES];
+    let mut reads: [Option<Read>; PLACES] = std::array::from_fn(|_| None);
+    let of_all = [page.order(r), page.aimed(r), page.numbered(r)];
     wrong.extend(of_all.into_iter().flatten().map(|reason| Wrong { place: None, reason }));
     for drawn in &page.places {
         let (place, read) = (page.stands(drawn), page.told(drawn));
@@ -580,12 +654,22 @@ pub fn check(r: &Rules, page: &[u8]) -> Vec<Wrong> {
             reasons.push(if drawn.never { "it is not drawn grey" } else { "it is drawn grey" }.into());
         }
         wrong.extend(reasons.into_iter().map(|reason| Wrong { place: Some(place), reason }));
+        reads[place] = Some(read);
     }
+    let shown = shown_of_ground(r);
     for (place, &times) in times.iter().enumerate() {
-        let reason = match times {
-            0 => "it is not there".into(),
-            1 => continue,
-            _ => format!("it is there {times} times"),
+        let reason = match (times, place < IN_AIR || shown.contains(&place)) {
+            (0, true) => "it is not there".into(),
+            (1.., false) => "it is there, yet what comes next is as in the air".into(),
+            (2.., true) => format!("it is there {times} times"),
+            (1, true) => continue,
+            // What is told of it is what its place in the air tells.
+            (0, false) => match reads[place - IN_AIR].as_ref().map(|read| told_wrong(r, place, read)) {
+                Some(told) if !told.is_empty() => {
+                    format!("{} of its 16 entries are told wrong by its place in the air", told.len())
+                }
+                _ => continue,
+            },
         };
         wrong.push(Wrong { place: Some(place), reason });
     }

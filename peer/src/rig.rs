@@ -1,4 +1,5 @@
-//! The controller: "One accepted step, in this order" of document 01, with the lamps of K1 and the votes of K5.
+//! The controller: "One accepted step, in this order" of document 01, with the lamps of K1, the votes of K5 and what
+//! K7 has of the ground.
 //!
 //! Sensors are bits of a `u32` in the order of the sample, one word per channel; orders are bits
 //! of a `u8` in the order of the output row. An age is not stored: `since` holds the time of the
@@ -72,6 +73,8 @@ pub struct Rig {
     pub cause: u8,
     /// What a fault makes the lamps read in place of `held`.
     pub(crate) aside: u32,
+    /// What a fault keeps of the ground.
+    pub(crate) stood: bool,
 }
 
 impl Rig {
@@ -97,6 +100,7 @@ impl Rig {
             gears: Gears::Extended,
             cause: 0,
             aside: held,
+            stood: false,
         }
     }
 
@@ -175,6 +179,13 @@ impl Rig {
         if moved && !r.is(Slip::HandleAgeLate) {
             self.since[HANDLE_CLOCK] = self.now;
         }
+        let ground = match r.slip {
+            Slip::None => self.on_ground(),
+            _ => self.other_ground(r, before, sample),
+        };
+        if r.slip != Slip::None {
+            self.handle_age_of_ground(r, before, elapsed);
+        }
         let red_before = self.cause != 0;
         if self.cause == 0 || r.is(Slip::NotLatched) {
             let at = if r.is(Slip::MonitorsOldAge) { old } else { self.now };
@@ -189,9 +200,9 @@ impl Rig {
         // Sequence: with an anomaly, old or new, nothing moves.
         let red = if r.is(Slip::LatchingMove) { red_before } else { self.cause != 0 };
         if !red || r.is(Slip::RedMoves) {
-            self.sequence(r);
+            self.sequence(r, ground);
             if r.is(Slip::TwoMoves) {
-                self.sequence(r);
+                self.sequence(r, ground);
             }
         }
 
@@ -360,19 +371,82 @@ impl Rig {
         }
     }
 
-    /// Sequence: at most one move.
-    fn sequence(&mut self, r: &Rules) {
+    /// Some absorber is voted on ground.
+    fn on_ground(&self) -> bool {
+        self.held & ON_GROUND != 0
+    }
+
+    /// Faults only: another ground, from the votes before this sample, from its votes, or from its channels.
+    fn other_ground(&mut self, r: &Rules, before: u32, sample: [u32; 3]) -> bool {
+        use Slip::*;
+        let on = three(self.held, ON_GROUND);
+        let any = |values: u32| values & ON_GROUND != 0;
+        let [a, b, c] = sample;
+        let up = self.held & HANDLE == 0;
+        match r.slip {
+            GroundAtHandle if (self.held ^ before) & HANDLE != 0 => self.stood = on != 0,
+            GroundLatched => self.stood = up && (self.stood || on != 0),
+            _ => {}
+        }
+        match r.slip {
+            GroundUnread => false,
+            GroundAll => on == ALL,
+            GroundTwo => on.count_ones() >= 2,
+            GroundOnly(unit) => on >> unit & 1 == 1,
+            GroundForgets(unit) => on & !(1 << unit) != 0,
+            GroundInverted => on != ALL,
+            GroundNone => on == 0,
+            GroundChannel(channel) => any(sample[channel]),
+            GroundAnyChannel => any(a | b | c),
+            GroundAllChannels => any(a & b & c),
+            GroundMajority => any(majority(sample)),
+            GroundInvalid0 => any(self.held & !self.invalid),
+            GroundInvalid1 => any(self.held | self.invalid),
+            GroundBefore => any(before),
+            GroundLiftLate => any(before | self.held),
+            GroundTouchLate => any(before & self.held),
+            GroundAtHandle | GroundLatched => self.stood,
+            _ => on != 0,
+        }
+    }
+
+    /// Faults only: a handle whose age the ground moves.
+    fn handle_age_of_ground(&mut self, r: &Rules, before: u32, elapsed: u64) {
+        let up = self.held & HANDLE == 0;
+        match r.slip {
+            Slip::LiftRestartsHandle if up && before & ON_GROUND != 0 && !self.on_ground() => {
+                self.since[HANDLE_CLOCK] = self.now;
+            }
+            Slip::GroundStopsHandleAge if up && self.on_ground() => {
+                self.since[HANDLE_CLOCK] = (self.since[HANDLE_CLOCK] + elapsed).min(self.now);
+            }
+            _ => {}
+        }
+    }
+
+    /// Sequence: at most one move; `ground` is whether some absorber is voted on ground.
+    fn sequence(&mut self, r: &Rules, ground: bool) {
+        let up = (self.held & HANDLE == 0) != r.is(Slip::AimSwapped);
+        let aim = if up { Gears::Retracted } else { Gears::Extended };
+        // A rig that stands on its wheels acts as if gears were at the aim.
+        let stands = up && self.gears == Gears::Extended && ground;
+        if r.slip == Slip::None || !self.stands_wrongly(r, up, ground) {
+            self.acts(r, up, self.gears == aim || stands);
+        }
+    }
+
+    /// What a handle asks for, with gears at the aim or not.
+    fn acts(&mut self, r: &Rules, up: bool, at_aim: bool) {
         use {Doors::*, Gears::*};
         let all = |sensors, any| match self.held & sensors {
             seen if r.is(any) => seen != 0,
             seen => seen == sensors,
         };
-        let up = (self.held & HANDLE == 0) != r.is(Slip::AimSwapped);
         let (aim, towards, there) = match up {
             true => (Retracted, Retracting, GEAR_RETRACTED),
             false => (Extended, Extending, GEAR_EXTENDED),
         };
-        match (self.gears == aim, self.doors) {
+        match (at_aim, self.doors) {
             (false, Closing) if r.is(Slip::ClosingKept) => {}
             (false, Closed | Closing) => self.doors = Opening,
             (false, Opening) if all(DOOR_OPEN, Slip::AnyDoorOpen) => self.doors = Open,
@@ -386,6 +460,53 @@ impl Rig {
         }
     }
 
+    /// Faults only: another move on the ground, or none; whether it is one of those.
+    fn stands_wrongly(&mut self, r: &Rules, up: bool, ground: bool) -> bool {
+        use {Doors::*, Gears::*, Slip::*};
+        let stands = up && ground && self.gears == Extended;
+        let seen_extended = self.held & GEAR_EXTENDED == GEAR_EXTENDED;
+        match (r.slip, self.doors) {
+            // As if at the aim, elsewhere.
+            (GroundDownToo, _) if ground && !up && self.gears == Retracted => self.acts(r, up, true),
+            (GroundDownInstead, _) if ground && !up => {
+                self.acts(r, up, matches!(self.gears, Retracted | Extended));
+            }
+            (GroundDownInstead, _) if stands => self.acts(r, up, false),
+            (GroundAnyGears, _) if ground && up => self.acts(r, up, true),
+            (GroundSeenExtended, _) if ground && up => {
+                self.acts(r, up, self.gears == Retracted || seen_extended);
+            }
+            // Another aim.
+            (GroundAims, _) if ground && up => self.acts(r, false, self.gears == Extended),
+            (GroundTurnsBack, _) if ground && up && self.gears != Retracted => {
+                self.acts(r, false, self.gears == Extended);
+            }
+            (GroundKeepsExtending, _) if ground && up && self.gears == Extending => {
+                self.acts(r, false, false)
+            }
+            (GroundHoldsRetracting, _) if ground && up && self.gears == Retracting => {}
+            // Another move of the doors, or none: those of a rig in the air among them.
+            (GroundNothingMoves, _) if stands => {}
+            (GroundOpeningKept, Opening) | (GroundOpenKept, Open) | (GroundClosingKept, Closing)
+                if stands => {}
+            (GroundClosingUnseen, Closing) if stands => self.doors = Closed,
+            (GroundHoldsGears, Open) if stands => {}
+            (GroundHoldsGears, _)
+            | (GroundHoldsClosed, Opening | Open | Closing)
+            | (GroundClosedOpens, Closed)
+            | (GroundOpeningGoesOn, Opening)
+            | (GroundOpenRetracts, Open)
+            | (GroundClosingOpens, Closing)
+                if stands =>
+            {
+                self.acts(r, up, false);
+            }
+            (GroundIsRed, _) if stands => self.cause = 13,
+            _ => return false,
+        }
+        true
+    }
+
     /// Orders: `self.on` as it stood before, the new doors, gears and anomaly, ages grown.
     fn orders(&mut self, r: &Rules, at: u64) {
         let before = self.on;
@@ -396,6 +517,7 @@ impl Rig {
             _ if red && !r.is(Slip::OrdersKeptRed) => 0,
             (Doors::Opening, _) => 1 << OPEN,
             (Doors::Closing, _) => 1 << CLOSE,
+            (_, Gears::Retracting) if r.is(Slip::GroundStopsRetract) && self.on_ground() => 0,
             (_, Gears::Retracting) => 1 << RETRACT,
             (_, Gears::Extending) => 1 << EXTEND,
             _ => 0,

@@ -1,13 +1,13 @@
 //! The numbers of document 01 and, for tests, the faults that can be planted.
-//! `Rules::default()` is document 01 with K1's lamps, K2's dumps, K3's images, K4's wall, K5's votes and K6's forms;
-//! every fault moves one number or makes one `Slip`.
+//! `Rules::default()` is document 01 with K1's lamps, K2's dumps, K3's images, K4's wall, K5's votes, K6's forms and
+//! K7's ground; every fault moves one number or makes one `Slip`.
 
 use crate::image::Form;
 use crate::rig::{CLOSE, EXTEND, GENERAL, HANDLE_CLOCK, OPEN, RETRACT};
 
-/// One way of getting document 01 or one of K1 to K6 wrong that is not a moved number. A number in it is a
-/// unit: 0 front, 1 left, 2 right; for images a sensor, an order, a clock, a count, or channels, doors and gears by
-/// number; for the wall a fact, an entry or a place.
+/// One way of getting document 01 or one of K1 to K7 wrong that is not a moved number. A number in it is a
+/// unit: 0 front, 1 left, 2 right; for the ground also a channel from 0; for images a sensor, an order, a clock, a
+/// count, or channels, doors and gears by number; for the wall a fact, an entry or a place.
 #[derive(Clone, Copy, PartialEq, Eq, Debug)]
 #[rustfmt::skip]
 pub enum Slip {
@@ -30,6 +30,16 @@ pub enum Slip {
     // Sequence
     LatchingMove, RedMoves, ClosingKept, OpeningKept, TwoMoves, WrongWayKept,
     AnyDoorOpen, AnyDoorClosed, AnyGearThere, AimSwapped,
+    // What tells that the rig is on the ground
+    GroundUnread, GroundAll, GroundTwo, GroundOnly(u8), GroundForgets(u8), GroundInverted, GroundNone,
+    GroundChannel(usize), GroundAnyChannel, GroundAllChannels, GroundMajority, GroundInvalid0, GroundInvalid1,
+    GroundBefore, GroundLiftLate, GroundTouchLate, GroundAtHandle, GroundLatched,
+    // For which handle and gears it counts, and what then happens
+    GroundDownToo, GroundDownInstead, GroundAnyGears, GroundSeenExtended, GroundAims, GroundTurnsBack,
+    GroundKeepsExtending, GroundHoldsRetracting,
+    GroundNothingMoves, GroundHoldsGears, GroundHoldsClosed, GroundClosedOpens, GroundOpeningGoesOn,
+    GroundOpeningKept, GroundOpenRetracts, GroundOpenKept, GroundClosingOpens, GroundClosingKept,
+    GroundClosingUnseen, GroundIsRed, GroundStopsRetract, LiftRestartsHandle, GroundStopsHandleAge,
     // Orders
     OppositeUnchecked, OppositeAgeOnly, OppositeAtStop, OppositesSwapped, WaitsOldAge,
     GeneralOnUnchecked, OrdersKeptRed, GeneralKeptRed, GeneralWaitsNone, GeneralOnlyClosed,
@@ -113,15 +123,21 @@ pub enum Slip {
     ShownOddCountSwapped,
     // The wall: which entry is asked
     FactsSwapped(usize, usize), FactsBackwards, PlaceBackwards, HandleInIndex, DoorsGearsInIndex, HandleLast,
-    IndexNext, EntryWrong(usize),
+    IndexNext, EntryWrong(usize), GroundInIndex, GroundAndHandleInIndex, GroundLast,
     // What its row says
     PossibleInverted, PossibleClosed, PossibleNotClosed, PossibleAlways, PossibleOfNext,
     NextAndPresent, NextIsPresent, NextGearsFirst, HandleWords, OpenAndClosingNumbers, NumbersFrom1, EntriesFrom1,
     WallLf, WallNoHeader, WallNoLastCrLf, WallLowerCase,
+    OnGroundInverted, OnGroundAlways0, OnGroundUnwritten, OnGroundBehindHandle, OnGroundLast, OnGroundInWords, WallAirOnly,
+    WallGroundFirst, WallGroundFrom0,
     // What its page says
     PageNoGrey, PageGreyMoved, PageNoElse, PageThenElse, PageFactUnnamed, PageFactTooMany, PageOtherFact,
     PageMovesKeeps, PageStaysSpelt, PageColumns, PageRows, PageHandles, PageNumbers, PageLacks(usize), PageTwice(usize),
-    PageAims, PageNoTableNumber, PageTableNumberUnweighed,
+    PageAims, PageNoTableNumber, PageTableNumberUnweighed, PageTableNumberOfAir,
+    // And of the ground
+    PageNoGround, PageGroundAll, PageGroundMore(usize), PageGroundUnheaded, PageGroundHandle, PageGroundInAir,
+    PageGroundColumns, PageGroundRow, PageGroundNumbers, PageGroundOfAir, PageGroundMirrored, PageGroundAims,
+    PageGroundNoAims, PageGroundFirst,
 }
 
 /// The highest number of each sort of item in an image.
@@ -353,6 +369,60 @@ pub fn faults() -> Vec<(String, Rules)> {
     all.push(("age_cap_21499".into(), Rules { age_cap: 21_499, ..Rules::default() }));
     all.push(("opposite_wait_0".into(), Rules { opposite_wait: 0, ..Rules::default() }));
     all.extend(count_faults());
+    all.extend(ground_faults());
+    all
+}
+
+/// Faults of K7.
+pub fn ground_faults() -> Vec<(String, Rules)> {
+    use Slip::*;
+    let mut all = slips(&[
+        ("ground_not_looked_at", GroundUnread),
+        ("ground_needs_all_absorbers", GroundAll),
+        ("ground_needs_two_absorbers", GroundTwo),
+        ("absorbers_inverted", GroundInverted),
+        ("ground_where_no_absorber_says_so", GroundNone),
+        ("ground_from_any_channel", GroundAnyChannel),
+        ("ground_needs_all_channels", GroundAllChannels),
+        ("ground_from_raw_majority", GroundMajority),
+        ("ground_before_vote", GroundBefore),
+        ("lift_counts_a_sample_late", GroundLiftLate),
+        ("touch_counts_a_sample_late", GroundTouchLate),
+        ("ground_only_where_handle_moves", GroundAtHandle),
+        ("ground_kept_until_handle_down", GroundLatched),
+        ("handle_down_guarded_too", GroundDownToo),
+        ("handle_down_guarded_instead", GroundDownInstead),
+        ("gears_not_looked_at_on_ground", GroundAnyGears),
+        ("gears_seen_extended_on_ground", GroundSeenExtended),
+        ("ground_aims_at_extended", GroundAims),
+        ("retracting_turned_back_on_ground", GroundTurnsBack),
+        ("extending_goes_on_on_ground", GroundKeepsExtending),
+        ("retracting_held_on_ground", GroundHoldsRetracting),
+        ("nothing_moves_on_ground", GroundNothingMoves),
+        ("only_gears_held_on_ground", GroundHoldsGears),
+        ("only_doors_closed_held_on_ground", GroundHoldsClosed),
+        ("doors_closed_open_on_ground", GroundClosedOpens),
+        ("doors_opening_go_on_on_ground", GroundOpeningGoesOn),
+        ("doors_left_opening_on_ground", GroundOpeningKept),
+        ("gears_leave_doors_open_on_ground", GroundOpenRetracts),
+        ("doors_left_open_on_ground", GroundOpenKept),
+        ("doors_closing_open_on_ground", GroundClosingOpens),
+        ("doors_left_closing_on_ground", GroundClosingKept),
+        ("doors_closed_unseen_on_ground", GroundClosingUnseen),
+        ("handle_up_on_ground_is_red", GroundIsRed),
+        ("retract_order_stops_on_ground", GroundStopsRetract),
+        ("handle_age_restarts_at_lift", LiftRestartsHandle),
+        ("handle_age_waits_on_ground", GroundStopsHandleAge),
+    ]);
+    for (unit, name) in (0..).zip(["front", "left", "right"]) {
+        all.extend(slips(&[
+            (&format!("ground_from_{name}_absorber_only")[..], GroundOnly(unit)),
+            (&format!("ground_forgets_{name}_absorber")[..], GroundForgets(unit)),
+        ]));
+    }
+    for channel in 0..3 {
+        all.extend(slips(&[(&format!("ground_from_channel_{}", channel + 1)[..], GroundChannel(channel))]));
+    }
     all
 }
 
@@ -382,12 +452,21 @@ fn count_faults() -> Vec<(String, Rules)> {
     all
 }
 
-/// Faults that no output row can show: the cause is not written; on a refusal 3 both stamps are
-/// equal; no threshold lies at the cap.
+/// Faults that no output row can show: the cause is not written; on a refusal 3 both stamps are equal; with a sensor
+/// invalid nothing moves, so that no ground counts; no threshold lies at the cap.
 pub fn unseen() -> Vec<(String, Rules)> {
-    let mut all = slips(&[("stamp_moved_on_3", Slip::StampMovedOn3)]);
+    let mut all = unseen_everywhere();
     all.extend(unseen_in_rows());
     all
+}
+
+/// Those of them that no image shows either.
+fn unseen_everywhere() -> Vec<(String, Rules)> {
+    slips(&[
+        ("stamp_moved_on_3", Slip::StampMovedOn3),
+        ("ground_takes_invalid_as_0", Slip::GroundInvalid0),
+        ("ground_takes_invalid_as_1", Slip::GroundInvalid1),
+    ])
 }
 
 /// Those of them that an image shows.
@@ -403,14 +482,13 @@ fn unseen_in_rows() -> Vec<(String, Rules)> {
     all
 }
 
-/// Faults that no image can show, nor what is loaded from one: on a refusal 3 both stamps are equal; an
-/// order that is on and wanted has doors that are not CLOSED and no cause, so that general_EV is asked
-/// for in any case.
+/// Faults that no image can show, nor what is loaded from one: on a refusal 3 both stamps are equal; with a sensor
+/// invalid nothing moves; an order that is on and wanted has doors that are not CLOSED and no cause, so that general_EV
+/// is asked for in any case.
 pub fn unseen_in_images() -> Vec<(String, Rules)> {
-    slips(&[
-        ("stamp_moved_on_3", Slip::StampMovedOn3),
-        ("orders_taken_without_general", Slip::OrdersWithoutGeneral),
-    ])
+    let mut all = unseen_everywhere();
+    all.extend(slips(&[("orders_taken_without_general", Slip::OrdersWithoutGeneral)]));
+    all
 }
 
 /// Faults that a dump can show, of its writer and of what a run hands to it.
@@ -804,7 +882,12 @@ pub fn wall_faults() -> Vec<(String, Rules)> {
         ("handle_last_in_index", HandleLast),
         ("index_one_further", IndexNext),
     ]));
-    for entry in [0, 17, 136, 300, 511] {
+    all.extend(slips(&[
+        ("ground_swapped_in_index", GroundInIndex),
+        ("ground_and_handle_swapped_in_index", GroundAndHandleInIndex),
+        ("ground_last_in_index", GroundLast),
+    ]));
+    for entry in [0, 17, 136, 300, 511, 512, 552, 687, 751, 1023] {
         all.extend(slips(&[(&format!("entry_{entry}_wrong")[..], EntryWrong(entry))]));
     }
     all.extend(slips(&[
@@ -824,6 +907,15 @@ pub fn wall_faults() -> Vec<(String, Rules)> {
         ("wall_without_header", WallNoHeader),
         ("wall_without_last_crlf", WallNoLastCrLf),
         ("wall_in_lower_case", WallLowerCase),
+        ("on_ground_inverted", OnGroundInverted),
+        ("on_ground_always_0", OnGroundAlways0),
+        ("on_ground_unwritten", OnGroundUnwritten),
+        ("on_ground_behind_handle", OnGroundBehindHandle),
+        ("on_ground_last", OnGroundLast),
+        ("on_ground_in_words", OnGroundInWords),
+        ("wall_of_512_entries", WallAirOnly),
+        ("wall_begins_with_ground", WallGroundFirst),
+        ("wall_numbers_ground_from_0", WallGroundFrom0),
         ("page_without_grey", PageNoGrey),
         ("page_grey_where_gears_move", PageGreyMoved),
         ("page_without_else", PageNoElse),
@@ -843,6 +935,25 @@ pub fn wall_faults() -> Vec<(String, Rules)> {
         ("page_aims_swapped", PageAims),
         ("page_without_table_number", PageNoTableNumber),
         ("page_table_number_unweighed", PageTableNumberUnweighed),
+        ("page_table_number_of_air", PageTableNumberOfAir),
+        ("page_lacks_first_of_ground", PageLacks(34)),
+        ("page_lacks_last_of_ground", PageLacks(46)),
+        ("page_has_one_of_ground_twice", PageTwice(42)),
+        ("page_without_ground", PageNoGround),
+        ("page_has_all_of_ground", PageGroundAll),
+        ("page_has_one_of_ground_too_many", PageGroundMore(32)),
+        ("page_has_one_of_ground_down_too_many", PageGroundMore(50)),
+        ("page_ground_without_heading", PageGroundUnheaded),
+        ("page_ground_headed_handle_down", PageGroundHandle),
+        ("page_ground_headed_as_air", PageGroundInAir),
+        ("page_ground_columns_swapped", PageGroundColumns),
+        ("page_ground_row_of_other_gears", PageGroundRow),
+        ("page_ground_numbers_of_air", PageGroundNumbers),
+        ("page_ground_tells_air", PageGroundOfAir),
+        ("page_air_tells_ground", PageGroundMirrored),
+        ("page_ground_aim_of_other_gears", PageGroundAims),
+        ("page_ground_without_aim", PageGroundNoAims),
+        ("page_ground_above_air", PageGroundFirst),
     ]));
     all
 }

@@ -31,7 +31,7 @@ const GROUPS: [(&str, &str); 9] = [
 ];
 
 /// Every stored trace, and what its rows are for. One that is not the peer's own was given.
-const TRACES: [(&str, &str); 122] = [
+const TRACES: [(&str, &str); 145] = [
     ("adversarial_0", "sensors that say anything; given"),
     ("bad_bare_lf_long", "rows end in LF alone: the first line is too long; given"),
     ("bad_bare_lf_short", "a header that ends in LF alone, and no more; given"),
@@ -114,6 +114,63 @@ const TRACES: [(&str, &str); 122] = [
     ("edge_opposite_gears", "extend_EV and retract_EV start 100 ms after the other, not at 99"),
     ("general_stop_after_gears", "channels of the switch bounce while the gears move: forgiven, the orders go on"),
     ("general_stop_after_gears_three", "the gears' order is the last to be off for 1,000 ms"),
+    (
+        "ground_bounces",
+        "a wheel touches and lifts all the time: the doors turn each time, and at 24,796 ms nothing is settled",
+    ),
+    (
+        "ground_channel_odd",
+        "channels of absorbers that are odd: the majority tells of the ground, in that sample",
+    ),
+    (
+        "ground_doors_closed",
+        "doors CLOSED: it stands with the handle up, on each wheel alone too, and opens where the last one lifts",
+    ),
+    (
+        "ground_doors_closing",
+        "doors CLOSING: on the ground they go on, to CLOSED when the last is seen so, also where the handle is turned up",
+    ),
+    (
+        "ground_doors_open",
+        "doors OPEN: each wheel touches in the step in which the gears would leave: CLOSING",
+    ),
+    (
+        "ground_doors_opening",
+        "doors OPENING: each wheel touches: CLOSING; it lifts while they close, and when they are closed: OPENING",
+    ),
+    (
+        "ground_gears_turned",
+        "on the ground the gears turn while they move, each way; EXTENDED with the handle up, the doors close",
+    ),
+    (
+        "ground_gears_unseen",
+        "gears EXTENDED and seen retracted: on the ground they are EXTENDED all the same",
+    ),
+    ("ground_handle_down", "on the ground the handle goes down with gears RETRACTED: they extend"),
+    ("ground_invalid", "an absorber is invalid on the ground: red, and nothing moves where it lifts"),
+    (
+        "ground_lifts_late",
+        "the handle up on the ground for 20,000 ms, the switch open: it retracts where the wheels lift",
+    ),
+    ("ground_lifts_no_pressure", "the same with no pressure: cause 9 comes 2,000 ms behind the lift"),
+    ("ground_refused_sample", "refused samples, and row 0, tell nothing of the ground"),
+    (
+        "ground_retracted",
+        "wheels touch with gears RETRACTED and the handle up: the doors close and stay closed",
+    ),
+    (
+        "ground_retracting",
+        "wheels touch while gears are RETRACTING: they go on and arrive, with their order on",
+    ),
+    ("ground_struck", "a struck channel of each absorber: what it says of the ground does not count"),
+    (
+        "ground_this_sample",
+        "the last wheel lifts, or a wheel touches, in the sample in which the handle goes up",
+    ),
+    (
+        "ground_two_differ",
+        "the two channels left of an absorber differ: it stays on the ground, or in the air",
+    ),
     ("handle_moved_when_late", "the handle moves when cause 12 is near: its age is 0 at once"),
     ("handle_twice", "the handle's age starts again at each move"),
     ("header_only", "the header with no CRLF: no row, no refusal"),
@@ -122,6 +179,17 @@ const TRACES: [(&str, &str); 122] = [
     ("image_causes", "cause 11; a bounce before it, and in the same step another, which goes on to a strike"),
     ("image_causes_three", "cause 11 with a sensor invalid in the same step"),
     ("image_torn", "the last row is torn: 5"),
+    ("k7_bounces", "absorbers that bounce while the doors open and close; then the handle goes down; given"),
+    (
+        "k7_one_absorber",
+        "the left absorber alone holds a retraction; later the right one turns the doors; given",
+    ),
+    ("k7_stands_then_lifts", "it stands with the handle up, and lifts; given"),
+    (
+        "k7_touches_while_opening",
+        "the front absorber touches while the doors open, and later with gears RETRACTED; given",
+    ),
+    ("k7_touches_while_retracting", "absorbers touch while the gears retract, which go on; given"),
     ("lamps_door_open_unread", "door_open is not read by the lamps"),
     ("lamps_each_gear", "each gear and door by itself, at neither end and at both"),
     ("lamps_green_and_orange", "doors leave while the gears are extended: both lamps"),
@@ -304,7 +372,7 @@ pub fn wanted(cases: &Path) -> io::Result<Files> {
     for (name, why, image) in forms() {
         store.forms(name, why, image);
     }
-    let why = "the sequence, an entry for each handle, place and set of facts";
+    let why = "the sequence, an entry for ground and air, each handle, place and set of facts";
     store.case("table", "wall", "sequence", why, csv(&rules));
     Ok(store.all())
 }

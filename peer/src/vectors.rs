@@ -1,7 +1,8 @@
 //! Stored vectors: small traces, each made to show one thing, so that every fault of
 //! `rules::faults` changes the output of at least one of them.
 
-use crate::gen::{cut, field, lesson, same, trace, Script, Tape, Travel};
+use crate::gen::{cut, edges, field, lesson, same, Rng, Script, Tape, Travel, Wheels};
+use crate::ground_vectors;
 use crate::rig::*;
 use crate::rules::Rules;
 use crate::trace::{row, Row, HEADER};
@@ -567,7 +568,8 @@ pub fn vectors() -> Vec<(String, Vec<u8>)> {
         with_breaks(&rows)
     });
     add("header_only", HEADER.to_vec());
-    add("random_edges", trace(5, "edges", None).unwrap());
+    add("random_edges", edges(&mut Rng::new(5), Wheels::in_flight()).text);
+    all.extend(ground_vectors::vectors());
     all
 }
 

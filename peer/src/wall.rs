@@ -1,13 +1,17 @@
-//! Request K4: the sequence as a table of 512 entries, and what `wall` writes of it, the CSV and the page of
+//! Requests K4 and K7: the sequence as a table of 1,024 entries, and what `wall` writes of it, the CSV and the page of
 //! docs/WALL.md. No entry is stored: what comes next is what one step of the controller makes of it.
 
-use crate::rig::{Doors, Gears, Rig, DOOR_CLOSED, DOOR_OPEN, GEAR_EXTENDED, GEAR_RETRACTED, HANDLE};
+use crate::rig::{
+    Doors, Gears, Rig, DOOR_CLOSED, DOOR_OPEN, GEAR_EXTENDED, GEAR_RETRACTED, HANDLE, ON_GROUND,
+};
 use crate::rules::{faults, wall_faults, Rules, Slip};
 use std::fmt::Write;
 
-pub const ENTRIES: usize = 512;
-/// The places of handle, doors and gears, of sixteen entries each.
+pub const ENTRIES: usize = 1_024;
+/// The places of ground, handle, doors and gears, of sixteen entries each; the first half is of the air, and each of
+/// the ground stands so many behind its place in the air.
 pub const PLACES: usize = ENTRIES / 16;
+pub const IN_AIR: usize = PLACES / 2;
 
 // By number.
 pub const DOORS: [Doors; 4] = [Doors::Closed, Doors::Opening, Doors::Open, Doors::Closing];
@@ -16,8 +20,13 @@ pub const GEARS: [Gears; 4] = [Gears::Retracted, Gears::Extending, Gears::Extend
 pub const FACTS: [&str; 4] = ["all open", "all closed", "all extended", "all retracted"];
 const SENSORS: [u32; 4] = [DOOR_OPEN, DOOR_CLOSED, GEAR_EXTENDED, GEAR_RETRACTED];
 
-const HEADER: &str = "entry,handle,handle_number,doors,doors_number,gears,gears_number,all_open,all_closed,\
-all_extended,all_retracted,next_doors,next_doors_number,next_gears,next_gears_number,possible";
+/// The header's names: those of the number and of the handle, and all behind them; `on_ground` stands between.
+const HEADER: [&str; 3] = [
+    "entry",
+    "handle,handle_number",
+    "doors,doors_number,gears,gears_number,all_open,all_closed,all_extended,all_retracted,\
+next_doors,next_doors_number,next_gears,next_gears_number,possible",
+];
 
 /// The word for doors or gears, as on the output row.
 pub fn word(state: impl std::fmt::Debug) -> String {
@@ -27,6 +36,7 @@ pub fn word(state: impl std::fmt::Debug) -> String {
 /// What an entry is asked with.
 #[derive(Clone, Copy, PartialEq, Eq, Debug)]
 pub struct Entry {
+    pub ground: bool,
     pub down: bool,
     pub doors: Doors,
     pub gears: Gears,
@@ -34,9 +44,10 @@ pub struct Entry {
 }
 
 impl Entry {
-    /// 256 handle + 64 doors + 16 gears + 8 all open + 4 all closed + 2 all extended + all retracted.
+    /// 512 on ground + 256 handle + 64 doors + 16 gears + 8 all open + 4 all closed + 2 all extended + all retracted.
     pub fn of(number: usize) -> Entry {
         Entry {
+            ground: number / 512 % 2 == 1,
             down: number / 256 % 2 == 1,
             doors: DOORS[number / 64 % 4],
             gears: GEARS[number / 16 % 4],
@@ -46,14 +57,18 @@ impl Entry {
 
     pub fn number(&self) -> usize {
         let facts = self.facts.iter().fold(0, |n, &fact| 2 * n + usize::from(fact));
-        256 * usize::from(self.down) + 64 * self.doors as usize + 16 * self.gears as usize + facts
+        let place = 32 * usize::from(self.ground) + 16 * usize::from(self.down);
+        16 * (place + 4 * self.doors as usize + self.gears as usize) + facts
     }
 
-    /// The voted values that tell these facts: one that is not so lacks a single sensor.
+    /// The voted values that tell these facts: one that is not so lacks a single sensor, and on the ground is a single
+    /// absorber, each in its turn.
     fn held(&self) -> u32 {
         let handle = if self.down { HANDLE } else { 0 };
         let seen = |(so, sensors): (bool, u32)| if so { sensors } else { sensors & sensors << 1 };
-        handle | self.facts.into_iter().zip(SENSORS).map(seen).sum::<u32>()
+        let absorber = 1 << (ON_GROUND.trailing_zeros() as usize + self.number() % 3);
+        let ground = if self.ground { absorber } else { 0 };
+        handle | ground | self.facts.into_iter().zip(SENSORS).map(seen).sum::<u32>()
     }
 
     /// What comes next: one step without an anomaly, from a rig that stands there.
@@ -75,7 +90,10 @@ impl Entry {
             Slip::DoorsGearsInIndex => {
                 (asked.doors, asked.gears) = (DOORS[self.gears as usize], GEARS[self.doors as usize]);
             }
-            Slip::HandleLast => asked = Entry::of(number >> 1 | (number & 1) << 8),
+            Slip::HandleLast => asked = Entry::of(number & 512 | (number & 511) >> 1 | (number & 1) << 8),
+            Slip::GroundInIndex => asked.ground ^= true,
+            Slip::GroundAndHandleInIndex => std::mem::swap(&mut asked.ground, &mut asked.down),
+            Slip::GroundLast => asked = Entry::of(number >> 1 | (number & 1) << 9),
             Slip::IndexNext => asked = Entry::of((number + 1) % ENTRIES),
             _ => {}
         }
@@ -138,10 +156,33 @@ pub fn table_number(rows: &[Row]) -> u64 {
     rows.iter().zip(1..).map(|(row, place)| place * entry(row)).sum()
 }
 
-/// What a handle aims at: the gears at which doors that are CLOSED stay so, whatever is seen.
+/// Whether doors that are CLOSED stay so at these gears, whatever is seen.
+fn stays_closed(r: &Rules, ground: bool, down: bool, gears: Gears) -> bool {
+    let entry = |n| Entry { ground, down, doors: Doors::Closed, gears, facts: Entry::of(n).facts };
+    (0..16).all(|n| entry(n).next(r) == (Doors::Closed, gears))
+}
+
+/// What a handle aims at: the gears at which doors that are CLOSED stay so, in the air.
 pub fn aim(r: &Rules, down: bool) -> Option<Gears> {
-    let entry = |gears, n: usize| Entry { down, doors: Doors::Closed, gears, facts: Entry::of(n).facts };
-    GEARS.into_iter().find(|&gears| (0..16).all(|n| entry(gears, n).next(r) == (Doors::Closed, gears)))
+    GEARS.into_iter().find(|&gears| stays_closed(r, false, down, gears))
+}
+
+/// The gears at which they stay so on the ground, but not in the air.
+pub fn as_if_aim(r: &Rules, down: bool) -> Option<Gears> {
+    let only_there = |gears| stays_closed(r, true, down, gears) && !stays_closed(r, false, down, gears);
+    GEARS.into_iter().find(|&gears| only_there(gears))
+}
+
+/// The places of the ground that differ from those of the air, by a table of rows.
+fn differing(rows: &[Row]) -> Vec<usize> {
+    let next = |place: usize| rows[16 * place..16 * place + 16].iter().map(|row| row.next);
+    (IN_AIR..PLACES).filter(|&place| !next(place).eq(next(place - IN_AIR))).collect()
+}
+
+/// The places of the ground that are to be shown on the page, since what comes next differs there from the same place
+/// in the air.
+pub fn shown_of_ground(r: &Rules) -> Vec<usize> {
+    differing(&rows(r))
 }
 
 /// What `wall csv` writes.
@@ -154,24 +195,47 @@ pub fn csv(r: &Rules) -> Vec<u8> {
     };
     let doors = |doors: Doors| numbered(word(doors), doors as usize);
     let gears = |gears: Gears| numbered(word(gears), gears as usize);
-    let mut lines = vec![HEADER.to_string()];
+    // The new field, or its name, between the others.
+    let placed = |[number, handle, more]: [&str; 3], ground: &str| match r.slip {
+        Slip::OnGroundUnwritten => format!("{number},{handle},{more}"),
+        Slip::OnGroundBehindHandle => format!("{number},{handle},{ground},{more}"),
+        Slip::OnGroundLast => format!("{number},{handle},{more},{ground}"),
+        _ => format!("{number},{ground},{handle},{more}"),
+    };
+    let mut lines = Vec::new();
     for (number, Row { entry, next, possible }) in rows(r).into_iter().enumerate() {
         let up = entry.down == r.is(Slip::HandleWords);
         let handle = numbered(if up { "up" } else { "down" }.into(), usize::from(entry.down));
         let facts = entry.facts.map(|fact| if fact { "1" } else { "0" }).join(",");
+        let ground = match r.slip {
+            Slip::OnGroundInWords => ["air", "ground"][usize::from(entry.ground)],
+            Slip::OnGroundAlways0 => "0",
+            _ => ["0", "1"][usize::from(entry.ground != r.is(Slip::OnGroundInverted))],
+        };
+        let number = match r.slip {
+            Slip::EntriesFrom1 => number + 1,
+            Slip::WallGroundFrom0 => number % (ENTRIES / 2),
+            _ => number,
+        };
         let mut after = [doors(next.0), gears(next.1)];
         if r.is(Slip::NextGearsFirst) {
             after.reverse();
         }
-        lines.push(format!(
-            "{},{handle},{},{},{facts},{},{}",
-            number + usize::from(r.is(Slip::EntriesFrom1)),
+        let more = format!(
+            "{},{},{facts},{},{}",
             doors(entry.doors),
             gears(entry.gears),
             after.join(","),
             u8::from(possible)
-        ));
+        );
+        lines.push(placed([&number.to_string(), &handle, &more], ground));
     }
+    match r.slip {
+        Slip::WallAirOnly => lines.truncate(ENTRIES / 2),
+        Slip::WallGroundFirst => lines.rotate_left(ENTRIES / 2),
+        _ => {}
+    }
+    lines.insert(0, placed(HEADER, "on_ground"));
     let mut text = match r.slip {
         Slip::WallNoHeader => lines[1..].join("\r\n"),
         Slip::WallLf => lines.join("\n"),
@@ -205,7 +269,7 @@ pub fn check_csv(r: &Rules, theirs: &[u8]) -> Option<String> {
     ))
 }
 
-/// How many of the 512 rows a fault changes: the header, if there is one, is no row.
+/// How many of the rows a fault changes: the header, if there is one, is no row.
 pub fn changed_rows(fault: &Rules) -> usize {
     let [theirs, ours] = [fault, &Rules::default()].map(|r| {
         let text = csv(r);
@@ -217,9 +281,9 @@ pub fn changed_rows(fault: &Rules) -> usize {
 
 /// In words: a place by its number.
 pub fn place_words(place: usize) -> String {
-    let Entry { down, doors, gears, .. } = Entry::of(16 * place);
-    let handle = if down { "DOWN" } else { "UP" };
-    format!("handle {handle}, doors {}, gears {}", word(doors), word(gears))
+    let Entry { ground, down, doors, gears, .. } = Entry::of(16 * place);
+    let (ground, handle) = (if ground { "on ground, " } else { "" }, if down { "DOWN" } else { "UP" });
+    format!("{ground}handle {handle}, doors {}, gears {}", word(doors), word(gears))
 }
 
 const STYLE: &str =
@@ -227,68 +291,164 @@ const STYLE: &str =
 .numbers{font-size:3px;text-anchor:end} .moves{font-weight:bold} rect{fill:#fff;stroke:#000;stroke-width:.3} \
 .never rect{fill:#ddd}";
 
-/// What `wall page` writes, in one of the forms that docs/WALL.md allows: A3 in millimetres.
+/// What `wall page` writes, in one of the forms that docs/WALL.md allows: A3 in millimetres. (With a fault there may be
+/// more to show of the ground, and then a millimetre is less.)
 pub fn page(r: &Rules) -> String {
     let mut out = String::new();
     put(&mut out, r).expect("a string takes everything");
     out
 }
 
-/// Where the box of a place stands.
-fn corner(down: bool, doors: usize, gears: usize) -> (usize, usize) {
-    (40 + 62 * gears, 50 + 185 * usize::from(down) + 40 * doors)
+/// A handle's places: in the air the doors down the side and the gears along the top, on the ground the other way
+/// round.
+struct Block {
+    ground: bool,
+    down: bool,
+    /// What stands down the side, by number.
+    side: Vec<usize>,
+    top: usize,
+}
+
+impl Block {
+    /// Where the box of a place stands, by the numbers of what is on the side and along the top.
+    fn corner(&self, side: usize, along: usize) -> Option<(usize, usize)> {
+        let row = self.side.iter().position(|&n| n == side)?;
+        Some((40 + 62 * along, self.top + 34 * row))
+    }
+
+    fn side_word(&self, n: usize) -> String {
+        if self.ground {
+            word(GEARS[n])
+        } else {
+            word(DOORS[n])
+        }
+    }
+
+    fn along_word(&self, n: usize) -> String {
+        if self.ground {
+            word(DOORS[n])
+        } else {
+            word(GEARS[n])
+        }
+    }
+}
+
+/// The blocks below each other, and where they end; one of the ground only where it has a place to show.
+fn blocks(r: &Rules, shown: &[usize]) -> (Vec<Block>, usize) {
+    let mut order = [(false, false), (false, true), (true, false), (true, true)];
+    if r.is(Slip::PageGroundFirst) {
+        order.rotate_right(2);
+    }
+    let (mut all, mut top) = (Vec::new(), 30);
+    for (ground, down) in order {
+        let has = |gears: usize| {
+            let of_gears = |place: &usize| Entry::of(16 * place).gears as usize == gears;
+            let of_block = |place: &usize| Entry::of(16 * place).ground && Entry::of(16 * place).down == down;
+            shown.iter().any(|place| of_gears(place) && of_block(place))
+        };
+        let side: Vec<usize> = (0..4).filter(|&n| !ground || has(n)).collect();
+        if side.is_empty() {
+            continue;
+        }
+        let below = top + 34 * side.len() + 24;
+        all.push(Block { ground, down, side, top });
+        top = below;
+    }
+    (all, top)
 }
 
 fn put(out: &mut String, r: &Rules) -> std::fmt::Result {
+    let rows = rows(r);
+    let shown: Vec<usize> = match r.slip {
+        Slip::PageNoGround => (0..IN_AIR).collect(),
+        Slip::PageGroundAll => (0..PLACES).collect(),
+        Slip::PageGroundMore(more) => (0..IN_AIR).chain([more]).chain(differing(&rows)).collect(),
+        _ => (0..IN_AIR).chain(differing(&rows)).collect(),
+    };
+    let (blocks, end) = blocks(r, &shown);
+    let high = 420.max(end + 12);
+    let wide = high as f64 * 297.0 / 420.0;
     writeln!(
         out,
-        "<svg xmlns='http://www.w3.org/2000/svg' width='297mm' height='420mm' viewBox='0 0 297 420'>"
+        "<svg xmlns='http://www.w3.org/2000/svg' width='297mm' height='420mm' viewBox='0 0 {wide} {high}'>"
     )?;
     writeln!(out, "<title>The sequence</title>\n<style>{STYLE}</style>")?;
-    for down in [false, true] {
-        let (x, y) = corner(down, 0, 0);
-        let handle = if down != r.is(Slip::PageHandles) { "DOWN" } else { "UP" };
-        writeln!(out, "<text class='handle' x='{x}' y='{}'>Handle {handle}</text>", y - 12)?;
-        let aims = aim(r, down != r.is(Slip::PageAims)).map_or("nothing".into(), word);
-        writeln!(out, "<text class='aim' x='{}' y='{}'>aims at {aims}</text>", x + 62, y - 12)?;
-        for n in 0..4 {
-            let (x, y) = corner(down, 0, n);
-            writeln!(out, "<text class='head' x='{}' y='{}'>{}</text>", x + 3, y - 3, word(GEARS[n]))?;
-            let (x, y) = corner(down, n, 0);
-            writeln!(out, "<text class='head' x='{}' y='{}'>{}</text>", x - 30, y + 20, word(DOORS[n]))?;
-        }
+    for block in &blocks {
+        put_heads(out, r, block)?;
     }
-    let rows = rows(r);
     let number = match r.slip {
         Slip::PageTableNumberUnweighed => rows.iter().map(|row| table_number(&[*row])).sum(),
+        Slip::PageTableNumberOfAir => table_number(&rows[..ENTRIES / 2]),
         _ => table_number(&rows),
     };
     if !r.is(Slip::PageNoTableNumber) {
-        writeln!(out, "<text class='table' x='40' y='415'>table number {number}</text>")?;
+        writeln!(out, "<text class='table' x='40' y='{}'>table number {number}</text>", high - 5)?;
     }
-    for (place, rows) in rows.chunks(16).enumerate() {
+    for place in shown {
         let times = match r.slip {
             Slip::PageLacks(lacks) if lacks == place => 0,
             Slip::PageTwice(twice) if twice == place => 2,
             _ => 1,
         };
+        // The place that is told: with a fault it may be the one in the air, or the one on the ground.
+        let told = match r.slip {
+            Slip::PageGroundOfAir => place % IN_AIR,
+            Slip::PageGroundMirrored if differing(&rows).contains(&(place | IN_AIR)) => place ^ IN_AIR,
+            _ => place,
+        };
         for _ in 0..times {
-            put_place(out, r, place, rows)?;
+            put_place(out, r, place, &blocks, &rows[16 * told..16 * told + 16])?;
         }
     }
     writeln!(out, "</svg>")
 }
 
+/// The headings of a block: its handle, what that aims at, what stands along the top and down the side.
+fn put_heads(out: &mut String, r: &Rules, block: &Block) -> std::fmt::Result {
+    let &Block { ground, down, top, .. } = block;
+    let swapped = if ground { r.is(Slip::PageGroundHandle) } else { r.is(Slip::PageHandles) };
+    let handle = if down != swapped { "DOWN" } else { "UP" };
+    let on_ground = if ground && !r.is(Slip::PageGroundInAir) { ", on ground" } else { "" };
+    if !(ground && r.is(Slip::PageGroundUnheaded)) {
+        writeln!(out, "<text class='handle' x='40' y='{}'>Handle {handle}{on_ground}</text>", top - 12)?;
+    }
+    let aims = match r.slip {
+        Slip::PageGroundNoAims if ground => None,
+        Slip::PageGroundAims if ground => Some("acts as if gears RETRACTED were at the aim".into()),
+        _ if ground => {
+            as_if_aim(r, down).map(|gears| format!("acts as if gears {} were at the aim", word(gears)))
+        }
+        _ => Some(format!("aims at {}", aim(r, down != r.is(Slip::PageAims)).map_or("nothing".into(), word))),
+    };
+    if let Some(aims) = aims {
+        writeln!(out, "<text class='aim' x='164' y='{}'>{aims}</text>", top - 12)?;
+    }
+    for n in 0..4 {
+        let (x, y) = (43 + 62 * n, top - 3);
+        writeln!(out, "<text class='head' x='{x}' y='{y}'>{}</text>", block.along_word(n))?;
+    }
+    for (row, &n) in block.side.iter().enumerate() {
+        let n = if ground && r.is(Slip::PageGroundRow) { (n + 1) % 4 } else { n };
+        writeln!(out, "<text class='head' x='10' y='{}'>{}</text>", top + 34 * row + 18, block.side_word(n))?;
+    }
+    Ok(())
+}
+
 /// One place: of its sixteen entries those without a fact and with a single one are looked at.
-fn put_place(out: &mut String, r: &Rules, place: usize, rows: &[Row]) -> std::fmt::Result {
-    let Entry { down, doors, gears, .. } = Entry::of(16 * place);
-    let (mut row, mut column) = (doors as usize, gears as usize);
+fn put_place(out: &mut String, r: &Rules, place: usize, blocks: &[Block], rows: &[Row]) -> std::fmt::Result {
+    let Entry { ground, down, doors, gears, .. } = Entry::of(16 * place);
+    let (mut side, mut along) = (doors as usize, gears as usize);
     match r.slip {
-        Slip::PageColumns if matches!(column, 1 | 2) => column = 3 - column,
-        Slip::PageRows if row < 2 => row = 1 - row,
+        Slip::PageColumns if !ground && matches!(along, 1 | 2) => along = 3 - along,
+        Slip::PageRows if !ground && side < 2 => side = 1 - side,
+        _ if ground => (side, along) = (along, side),
         _ => {}
     }
-    let (x, y) = corner(down, row, column);
+    if ground && r.is(Slip::PageGroundColumns) {
+        along = 3 - along;
+    }
+    let block = blocks.iter().find(|block| (block.ground, block.down) == (ground, down));
+    let Some((x, y)) = block.and_then(|block| block.corner(side, along)) else { return Ok(()) };
     let moving = matches!(gears, Gears::Extending | Gears::Retracting);
     let never = match r.slip {
         Slip::PageNoGrey => false,
@@ -296,9 +456,13 @@ fn put_place(out: &mut String, r: &Rules, place: usize, rows: &[Row]) -> std::fm
         _ => !rows[0].possible,
     };
     let class = if never { "never" } else { "place" };
-    writeln!(out, "<g class='{class}' transform='translate({x} {y})'><rect width='60' height='38'/>")?;
-    let first = if r.is(Slip::PageNumbers) { (place + 1) % PLACES } else { place } * 16;
-    writeln!(out, "<text class='numbers' x='58' y='36'>{first} to {}</text>", first + 15)?;
+    writeln!(out, "<g class='{class}' transform='translate({x} {y})'><rect width='60' height='32'/>")?;
+    let first = match r.slip {
+        Slip::PageNumbers => (place + 1) % PLACES * 16,
+        Slip::PageGroundNumbers => place % IN_AIR * 16,
+        _ => place * 16,
+    };
+    writeln!(out, "<text class='numbers' x='58' y='30'>{first} to {}</text>", first + 15)?;
     let with = |fact: usize| rows[8 >> fact].next;
     let mut fact = (0..4).find(|&fact| with(fact) != rows[0].next);
     let [mut then, mut other] = [fact.map_or(rows[0].next, with), rows[0].next];

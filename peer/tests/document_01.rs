@@ -1,4 +1,4 @@
-//! Document 01 with change requests K1 and K5, told by examples.
+//! Document 01 with change requests K1, K5 and K7, told by examples.
 use peer::gen::{same, trace, Script, Tape, KINDS};
 use peer::rig::*;
 use peer::rules::{faults, unseen, Rules};
@@ -234,7 +234,7 @@ fn every_fault_is_in_some_vector() {
     let rules = Rules::default();
     let stored: Vec<_> = vectors().into_iter().map(|v| (replay_bytes(&rules, &v.1).0, v.1)).collect();
     let size: usize = stored.iter().map(|v| v.0.len() + v.1.len()).sum();
-    assert!(stored.len() <= 80 && size < 1_500_000);
+    assert!(stored.len() <= 100 && size < 1_500_000);
     let seen = |rules: &Rules| stored.iter().any(|v| replay_bytes(rules, &v.1).0 != v.0);
     for (name, rules) in faults() {
         assert!(seen(&rules), "{name}");

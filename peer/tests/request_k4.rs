@@ -1,8 +1,8 @@
 //! Request K4, told by the 512 entries that were given, by what docs/WALL.md says of the CSV and of the page,
-//! and by pages that are damaged.
+//! and by pages that are damaged. What K7 added is told in request_k7.rs.
 use peer::page::{check, differences};
 use peer::rig::*;
-use peer::rules::{by_name, Rules};
+use peer::rules::{by_name, ground_faults, Rules};
 use peer::wall::*;
 use std::collections::HashSet;
 use std::path::{Path, PathBuf};
@@ -24,7 +24,7 @@ fn the_512_entries_that_were_given() {
     let given: Vec<&str> = GIVEN.lines().filter(|line| !line.starts_with('#')).collect();
     let (rows, text) = (rows(&rules()), text());
     let lines: Vec<&str> = text.lines().skip(1).collect();
-    assert_eq!((given.len(), rows.len(), lines.len()), (512, 512, 512));
+    assert_eq!((given.len(), rows.len(), lines.len()), (512, 1_024, 1_024));
     for (n, (given, row)) in given.iter().zip(&rows).enumerate() {
         let words: Vec<&str> = given.split(' ').collect();
         let [ground, handle, doors, gears, open, closed, extended, retracted, arrow, next_doors, next_gears] =
@@ -41,7 +41,7 @@ fn the_512_entries_that_were_given() {
         assert_eq!((row.entry.number(), Entry::of(n)), (n, row.entry));
         // The words of the row, without the numbers.
         let fields: Vec<&str> = lines[n].split(',').collect();
-        let row = [0, 1, 2, 3, 5, 7, 8, 9, 10, 11, 13].map(|n| fields[n]);
+        let row = [0, 2, 3, 4, 6, 8, 9, 10, 11, 12, 14].map(|n| fields[n]);
         let n = n.to_string();
         let wanted =
             [&n, up, handle, doors, gears, open, closed, extended, retracted, next_doors, next_gears];
@@ -53,36 +53,38 @@ fn the_512_entries_that_were_given() {
 fn the_csv_has_its_form() {
     let text = text();
     let lines: Vec<&str> = text.split("\r\n").collect();
-    assert_eq!((lines.len(), lines[513]), (514, ""));
+    assert_eq!((lines.len(), lines[1_025]), (1_026, ""));
     assert!(lines.iter().all(|line| !line.contains(['\r', '\n', '"', ' '])));
     assert_eq!(
         lines[0],
-        "entry,handle,handle_number,doors,doors_number,gears,gears_number,all_open,all_closed,all_extended,\
-all_retracted,next_doors,next_doors_number,next_gears,next_gears_number,possible"
+        "entry,on_ground,handle,handle_number,doors,doors_number,gears,gears_number,all_open,all_closed,\
+all_extended,all_retracted,next_doors,next_doors_number,next_gears,next_gears_number,possible"
     );
-    assert_eq!(lines[1], "0,up,0,CLOSED,0,RETRACTED,0,0,0,0,0,CLOSED,0,RETRACTED,0,1");
-    assert_eq!(lines[512], "511,down,1,CLOSING,3,RETRACTING,3,1,1,1,1,OPENING,1,RETRACTING,3,0");
+    assert_eq!(lines[1], "0,0,up,0,CLOSED,0,RETRACTED,0,0,0,0,0,CLOSED,0,RETRACTED,0,1");
+    assert_eq!(lines[512], "511,0,down,1,CLOSING,3,RETRACTING,3,1,1,1,1,OPENING,1,RETRACTING,3,0");
+    assert_eq!(lines[545], "544,1,up,0,CLOSED,0,EXTENDED,2,0,0,0,0,CLOSED,0,EXTENDED,2,1");
+    assert_eq!(lines[1_024], "1023,1,down,1,CLOSING,3,RETRACTING,3,1,1,1,1,OPENING,1,RETRACTING,3,0");
     let mut possible = 0;
-    for line in &lines[1..513] {
+    for line in &lines[1..1_025] {
         let f: Vec<&str> = line.split(',').collect();
         let n = |field: usize| f[field].parse::<usize>().unwrap();
-        assert_eq!(f.len(), 16);
-        let facts = 8 * n(7) + 4 * n(8) + 2 * n(9) + n(10);
-        assert_eq!(n(0), 256 * n(2) + 64 * n(4) + 16 * n(6) + facts, "{line}");
-        assert_eq!(f[1], ["up", "down"][n(2)]);
-        for (words, number) in [(3, 4), (11, 12)] {
+        assert_eq!(f.len(), 17);
+        let facts = 8 * n(8) + 4 * n(9) + 2 * n(10) + n(11);
+        assert_eq!(n(0), 512 * n(1) + 256 * n(3) + 64 * n(5) + 16 * n(7) + facts, "{line}");
+        assert_eq!(f[2], ["up", "down"][n(3)]);
+        for (words, number) in [(4, 5), (12, 13)] {
             assert_eq!(f[words], ["CLOSED", "OPENING", "OPEN", "CLOSING"][n(number)]);
         }
-        for (words, number) in [(5, 6), (13, 14)] {
+        for (words, number) in [(6, 7), (14, 15)] {
             assert_eq!(f[words], ["RETRACTED", "EXTENDING", "EXTENDED", "RETRACTING"][n(number)]);
         }
-        assert_eq!(f[15] == "0", f[5].ends_with("ING") && f[3] != "OPEN", "{line}");
-        possible += n(15);
+        assert_eq!(f[16] == "0", f[6].ends_with("ING") && f[4] != "OPEN", "{line}");
+        possible += n(16);
     }
-    assert_eq!(possible, 320);
+    assert_eq!(possible, 640);
 }
 
-/// A fact is not so in seven ways, and what comes next is the same in all of them.
+/// A fact is not so in seven ways, and on the ground is so in seven: what comes next is the same in all of them.
 #[test]
 fn nothing_but_the_facts_counts() {
     let kinds = [DOOR_OPEN, DOOR_CLOSED, GEAR_EXTENDED, GEAR_RETRACTED];
@@ -92,8 +94,8 @@ fn nothing_but_the_facts_counts() {
         let values: u32 = threes.iter().zip(kinds).map(|(three, kind)| three << kind.trailing_zeros()).sum();
         for place in 0..PLACES {
             let entry = Entry { facts, ..Entry::of(16 * place) };
-            let held =
-                values | if entry.down { HANDLE } else { 0 } | if seen & 1 == 1 { ON_GROUND } else { 0 };
+            let ground = if entry.ground { (1 + seen % 7) << ON_GROUND.trailing_zeros() } else { 0 };
+            let held = values | ground | if entry.down { HANDLE } else { 0 };
             let mut rig = Rig::fresh(&rules(), 7);
             (rig.doors, rig.gears, rig.held) = (entry.doors, entry.gears, held);
             rig.step(&rules(), 9, [held; 3]);
@@ -109,7 +111,7 @@ fn runs_ask_what_is_possible() {
     let mut asked = HashSet::new();
     let mut rig = Rig::fresh(&rules(), 0);
     let mut drawn = 88_172_645_463_325_252u64;
-    for step in 1..60_000u32 {
+    for step in 1..200_000u32 {
         drawn ^= drawn << 13;
         drawn ^= drawn >> 7;
         drawn ^= drawn << 17;
@@ -119,12 +121,14 @@ fn runs_ask_what_is_possible() {
         for (bit, kind) in [DOOR_OPEN, DOOR_CLOSED, GEAR_EXTENDED, GEAR_RETRACTED].into_iter().enumerate() {
             values |= if seen >> (20 + bit) & 1 == 1 { kind } else { 0 };
         }
+        values &= if seen >> 27 & 3 == 0 { SENSORS } else { !ON_GROUND };
         let turns = seen >> 24 & 7 == 0;
         values |= if turns { !rig.held & HANDLE } else { rig.held & HANDLE };
         values |= if rig.age(HANDLE_CLOCK) < 20_000 { SWITCH } else { 0 };
         values |= if rig.is_on(GENERAL) { PRESSURIZED } else { 0 };
         let all = |kind| values & kind == kind;
         let entry = Entry {
+            ground: values & ON_GROUND != 0,
             down: values & HANDLE != 0,
             doors: rig.doors,
             gears: rig.gears,
@@ -148,10 +152,11 @@ fn the_table_number_is_of_all_entries_in_their_order() {
     let number = table_number(&rows);
     let weighed = |line: &str| {
         let fields: Vec<&str> = line.split(',').collect();
-        let [entry, doors, gears] = [0, 12, 14].map(|n| fields[n].parse::<u64>().unwrap());
+        let [entry, doors, gears] = [0, 13, 15].map(|n| fields[n].parse::<u64>().unwrap());
         (entry + 1) * (4 * doors + gears)
     };
-    assert_eq!((number, text().lines().skip(1).map(weighed).sum()), (1_016_708, number));
+    assert_eq!((number, text().lines().skip(1).map(weighed).sum()), (4_087_680, number));
+    assert_eq!(text().lines().skip(1).take(512).map(weighed).sum::<u64>(), 1_016_708);
     for i in 0..ENTRIES {
         for j in 0..i {
             let [one, other] = [rows[i].next, rows[j].next];
@@ -178,10 +183,10 @@ fn the_stored_page_agrees() {
 fn at_most_one_fact_makes_a_difference() {
     let counts: Vec<usize> = (0..PLACES).map(|place| differences(&rules(), place).len()).collect();
     assert!(counts.iter().all(|&count| count <= 1));
-    assert_eq!(counts.iter().sum::<usize>(), 10);
+    assert_eq!([0, IN_AIR].map(|first| counts[first..first + IN_AIR].iter().sum::<usize>()), [10, 10]);
 }
 
-/// The parts of the peer's own page: what stands before the places, and the places.
+/// The parts of the peer's own page: what stands before the places, and the places, those of the air first.
 fn parts() -> (String, Vec<String>) {
     let page = page(&rules());
     let starts: Vec<usize> = page.match_indices("<g class='").map(|found| found.0).collect();
@@ -220,7 +225,7 @@ fn the_peers_own_page_agrees_in_any_spelling() {
     let own = page(&rules());
     assert_eq!(said(&own), "");
     let (head, mut places) = parts();
-    assert_eq!((places.len(), joined(&head, &places)), (32, own.clone()));
+    assert_eq!((places.len(), joined(&head, &places)), (36, own.clone()));
     let same = [
         own.replace('\'', "\""),
         own.replace("class='head' ", "")
@@ -248,14 +253,14 @@ fn the_peers_own_page_agrees_in_any_spelling() {
             .map(|(n, part)| if n == 0 { part.into() } else { swap(part, "<rect", "<rect fill='#ccc'") })
             .collect::<Vec<String>>()
             .join("class='never'"),
-        own.replace("class='head' x='10' y='70'", "class='head' transform='rotate(-90 10 70)' x='10' y='70'"),
+        own.replace("class='head' x='10' y='48'", "class='head' transform='rotate(-90 10 48)' x='10' y='48'"),
     ];
     for (n, page) in same.iter().enumerate() {
         assert_ne!(*page, own, "{n}");
         assert_eq!(said(page), "", "{n}: {page}");
     }
     // Without boxes a place is where its texts are, and grey must come from elsewhere.
-    let bare = own.replace("<rect width='60' height='38'/>", "").replace(".never rect{", ".never{");
+    let bare = own.replace("<rect width='60' height='32'/>", "").replace(".never rect{", ".never{");
     assert_eq!(said(&bare), "");
     places.reverse();
     assert_eq!(said(&joined(&head, &places)), "");
@@ -337,7 +342,7 @@ fn damaged_places_are_refused_for_their_reason() {
         assert_eq!(said(&page).lines().count(), 12, "{style}");
     }
     let all_grey = page(&rules()).replace(".never rect{", ".never rect, .place rect{");
-    assert_eq!(said(&all_grey).matches("it is drawn grey").count(), 20);
+    assert_eq!(said(&all_grey).matches("it is drawn grey").count(), 24);
     // Bold is missing, or is everywhere.
     for style in ["", ".moves{font-weight:normal}", ".move{font-weight:bold}"] {
         let page = page(&rules()).replace(".moves{font-weight:bold}", style);
@@ -355,7 +360,7 @@ fn damaged_pages_are_refused_for_their_reason() {
         said(&joined(&head, &places))
     };
     // A place is missing, is there twice, or stands elsewhere.
-    for (n, place) in places.iter().enumerate() {
+    for (n, place) in places.iter().take(IN_AIR).enumerate() {
         let name = format!("{} ({} on): ", place_words(n), 16 * n);
         assert_eq!(page(&|all| drop(all.remove(n))), format!("{name}it is not there\n"));
         assert_eq!(page(&|all| all.push(place.clone())), format!("{name}it is there 2 times\n"));
@@ -374,8 +379,8 @@ fn damaged_pages_are_refused_for_their_reason() {
         }
         // Between the columns, between the rows, above them all.
         for (at, reason) in [
-            ("44 50", "is in the column of no one gears heading"),
-            ("40 71", "is in the row of no one doors heading"),
+            ("44 30", "is in the column of no one heading"),
+            ("40 49", "is in the row of no one heading"),
             ("102 12", "is headed by no one handle"),
         ] {
             let there = page(&|all| all[n] = swap(place, &corner(place), at));
@@ -391,35 +396,35 @@ fn damaged_pages_are_refused_for_their_reason() {
     // The headings.
     let own = joined(&head, &places);
     for (from, to, reason) in [
-        ("Handle UP", "Handle DOWN", "handle UP does not stand above handle DOWN"),
+        ("Handle UP", "Handle DOWN", "the headings are handle DOWN, handle DOWN, handle UP on ground, not handle UP"),
         ("Handle UP", "Handle up", "the heading 'Handle up' is not understood"),
-        ("<text class='handle' x='40' y='38'>Handle UP</text>", "", "1 handle headings, not 2"),
+        (
+            "<text class='handle' x='40' y='18'>Handle UP</text>",
+            "",
+            "the headings are handle DOWN, handle UP on ground, not handle UP, handle DOWN, handle UP on ground",
+        ),
         (">EXTENDING<", ">RETRACTING<", "it bears the numbers of"),
         (">EXTENDING<", ">EXTENDED<", "it bears the numbers of"),
         (">CLOSED<", ">OPENING<", "it bears the numbers of"),
         (">CLOSED<", ">SHUT<", "the heading 'SHUT' is not understood"),
-        (
-            "class='head' x='10' y='70'",
-            "class='head' x='10' y='110'",
-            "is in the row of no one doors heading",
-        ),
-        ("class='head' x='43' y='47'", "class='head' x='105' y='47'", "is in the column of no one"),
+        ("class='head' x='10' y='48'", "class='head' x='10' y='82'", "is in the row of no one heading"),
+        ("class='head' x='43' y='27'", "class='head' x='105' y='27'", "is in the column of no one"),
     ] {
         let said = said(&swap(&own, from, to));
         assert!(said.contains(reason), "{from} -> {to}: {said}");
     }
     // What a handle aims at, and the table's number.
-    let number = "<text class='table' x='40' y='415'>table number 1016708</text>\n";
+    let number = "<text class='table' x='40' y='415'>table number 4087680</text>\n";
     for (from, to, reason) in [
-        ("aims at RETRACTED", "aims at EXTENDED", "handle UP does not aim at EXTENDED"),
-        ("aims at EXTENDED", "aims at RETRACTED", "handle DOWN does not aim at RETRACTED"),
+        ("aims at RETRACTED", "aims at EXTENDED", "handle UP: it is not so that it aims at EXTENDED"),
+        ("aims at EXTENDED", "aims at RETRACTED", "handle DOWN: it is not so that it aims at RETRACTED"),
         ("aims at EXTENDED", "aims at extended", "'aims at extended' is not understood"),
-        ("class='aim' x='102' y='38'", "class='aim' x='102' y='223'", "0 aims beside handle UP, not 1"),
-        ("class='aim' x='102' y='38'", "x='102' y='38'", "0 aims beside handle UP, not 1"),
+        ("class='aim' x='164' y='18'", "class='aim' x='164' y='178'", "0 aims beside handle UP, not 1"),
+        ("class='aim' x='164' y='18'", "x='164' y='18'", "0 aims beside handle UP, not 1"),
         (number, "", "0 table numbers, not 1"),
         (number, &number.repeat(2), "2 table numbers, not 1"),
-        ("number 1016708", "number 1016709", "the table number is 1016709, and the table's is 1016708"),
-        ("number 1016708", "number 01016708", "'table number 01016708' is not understood"),
+        ("number 4087680", "number 1016708", "the table number is 1016708, and the table's is 4087680"),
+        ("number 4087680", "number 04087680", "'table number 04087680' is not understood"),
     ] {
         assert_eq!(said(&swap(&own, from, to)), format!("{reason}\n"), "{from} -> {to}");
     }
@@ -434,8 +439,8 @@ fn damaged_pages_are_refused_for_their_reason() {
         .replace(">RETRACTED<", ">X<")
         .replace(">EXTENDING<", ">RETRACTED<")
         .replace(">X<", ">EXTENDING<");
-    let moved: Vec<String> =
-        places.iter().map(|place| place.replace(a, c).replace(b, a).replace(c, b)).collect();
+    let moved = places[..IN_AIR].iter().map(|place| place.replace(a, c).replace(b, a).replace(c, b));
+    let moved: Vec<String> = moved.chain(places[IN_AIR..].iter().cloned()).collect();
     let order = said(&joined(&heads, &moved));
     assert!(order.contains("stand in the wrong order") && order.lines().count() == 1, "{order}");
 }
@@ -469,10 +474,10 @@ fn what_is_not_understood_is_refused() {
         ("<rect width='60'", "<rect width='60mm'"),
         ("<rect width='60'", "<rect width=60"),
         ("<rect width='60'", "<rect width='999'"),
-        ("translate(40 50)", "translate(40 50) rotate(5)"),
-        ("translate(40 50)", "translate(40 50 60)"),
-        ("translate(40 50)", "translate(40,,50)"),
-        ("translate(40 50)", "translate(-40 50)"),
+        ("translate(40 30)", "translate(40 30) rotate(5)"),
+        ("translate(40 30)", "translate(40 30 60)"),
+        ("translate(40 30)", "translate(40,,30)"),
+        ("translate(40 30)", "translate(-40 30)"),
         ("always", "<tspan>always</tspan>"),
         ("always", "alw\u{e4}ys"),
         ("<g class='place'", "<g class='place'><g class='place'"),
@@ -512,8 +517,9 @@ fn every_fault_is_caught_by_the_csv_or_the_page() {
         "aim_swapped",
     ];
     let own = peer::rules::wall_faults().len();
-    let found: Vec<&str> = all[..all.len() - own].iter().map(|fault| &fault.0[..]).collect();
-    assert_eq!(found, sequence);
+    let of_ground: HashSet<String> = ground_faults().into_iter().map(|fault| fault.0).collect();
+    let found = all[..all.len() - own].iter().filter(|fault| !of_ground.contains(&fault.0));
+    assert_eq!(found.map(|fault| &fault.0[..]).collect::<Vec<_>>(), sequence);
     assert_eq!(changed_rows(&rules()), 0);
 }
 
@@ -598,7 +604,7 @@ fn compare_runs_the_wall() {
     // It is sound.
     put("wall", &format!("exec {wall} \"$@\""));
     let (status, said) = compare(&[]);
-    assert!(status == Some(0) && said.contains("page: 32 places agree"), "{said}");
+    assert!(status == Some(0) && said.contains("page: 32 places and 4 of the ground agree"), "{said}");
     // It is not: what it writes, what it says, its status.
     let sound = format!("exec {wall} \"$@\"");
     for (text, reason) in [

@@ -410,17 +410,20 @@ fn a_lesson_brushed_twice_in_a_row() {
 }
 
 /// Where all channels agree K5 changes nothing: such traces and their rows are those that were stored before it, by a
-/// digest of names, traces and rows. Left out are one that is new, and one that had another name and is held above.
+/// digest of names, traces and rows. Left out are one that is new, one that had another name and is held above, and
+/// those that came with K7, of which no rule before it says what they give.
 #[test]
 fn agreeing_traces_are_those_of_before() {
     let left_out = ["channels_agree", "lesson_clean"];
+    let of_k7 = |name: &str| name.starts_with("ground_") || name.starts_with("k7_");
     let agree = |text: &[u8]| {
         let rows = cut(text);
         let mut fields = rows.iter().skip(2).flat_map(|row| row.split(|&b| b == b',').skip(2));
         rows.len() > 2 && fields.all(|says| says == b"000" || says == b"111")
     };
     let all = read(Path::new("../crates/cases/data")).unwrap().rows;
-    let before: Vec<_> = all.iter().filter(|v| agree(&v.1) && !left_out.contains(&&v.0[..])).collect();
+    let before = all.iter().filter(|v| agree(&v.1) && !left_out.contains(&&v.0[..]) && !of_k7(&v.0));
+    let before: Vec<_> = before.collect();
     let bytes = before.iter().flat_map(|(name, text, rows)| name.as_bytes().iter().chain(text).chain(rows));
     assert_eq!((before.len(), digest(bytes)), (79, 0x794f_b802_8003_2491));
 }

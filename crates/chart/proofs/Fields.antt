@@ -1,7 +1,6 @@
 -- The fields of a row are the pieces that the code puts one after the other.
 -- Assumes nothing.
 use Prim.Native.Nat.{ℕ}
-use mathlib.Core.Bool.{Bool}
 use mathlib.Core.List.{List, [], _∷_, _++_, append-assoc}
 use mathlib.Core.Path.{_≡_}
 use Rattle.common.specs.Ascii.{comma, crlf, joinedByCommas}
@@ -14,9 +13,9 @@ use Rattle.sequence.specs.Numbers.{handleNumber}
 use Rattle.sequence.specs.Places.{movingHaveOpen}
 use Rattle.chart.specs.Csv.{placeFields, factField, factFields, askedFields, behind, csvRow}
 
--- What is asked: handle, doors and gears, facts.
+-- What is asked: ground, handle, doors and gears, facts.
 pub asked-text : (a : Asked)
-    → comma ∷ (handleWord (a .aim) ++ (comma ∷ decimal (handleNumber (a .aim))) ++ behind (placeFields (a .place)) ++ behind (factFields (a .seen)))
+    → (comma ∷ (factField (a .ground) ++ comma ∷ [])) ++ (handleWord (a .aim) ++ (comma ∷ decimal (handleNumber (a .aim))) ++ behind (placeFields (a .place)) ++ behind (factFields (a .seen)))
     ≡ behind (askedFields a)
 unfolding joinedByCommas
 asked-text a = simp append-assoc

@@ -4,7 +4,7 @@ use mathlib.Core.Path.{refl}
 use Rattle.common.specs.Ascii.{joinedByCommas}
 use Rattle.common.specs.Case.{AllAsWanted}
 use Rattle.common.specs.Decimal.{decimal, decimalUpTo}
-use Rattle.sequence.specs.Moves.{atAim, nextGears, doorsToGears, doorsHome, moveOf}
+use Rattle.sequence.specs.Moves.{atAim, nextGears, doorsToGears, doorsHome, moveOf, aimInForce}
 use Rattle.sequence.specs.Numbers.{doorsAt, gearsAt}
 use Rattle.table.specs.Table.{factsAt, askedAt, nextOf}
 use Rattle.sequence.specs.Places.{movingHaveOpen}
@@ -13,5 +13,5 @@ use Rattle.chart.specs.Csv.{csvHeader, csvRow}
 
 pub table-lines : AllAsWanted tableLines
 unfolding tableLines csvHeader csvRow joinedByCommas decimal decimalUpTo
-    askedAt factsAt doorsAt gearsAt nextOf moveOf atAim nextGears doorsToGears doorsHome movingHaveOpen
+    askedAt factsAt doorsAt gearsAt nextOf aimInForce moveOf atAim nextGears doorsToGears doorsHome movingHaveOpen
 table-lines = refl

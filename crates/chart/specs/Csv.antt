@@ -1,4 +1,4 @@
--- Request K4: the table as CSV by RFC 4180: a header, and a row for each of the 512 entries, with words and numbers.
+-- Requests K4 and K7: the table as CSV by RFC 4180: a header, and a row for each of the 1,024 entries, with words and numbers.
 -- Assumes nothing.
 use Prim.Native.Nat.{ℕ, _+_}
 use mathlib.Core.Bool.{Bool}
@@ -26,7 +26,7 @@ numbered word n = word ∷ decimal n ∷ []
 abbrev pub placeFields : Place → List (List ℕ)
 placeFields p = numbered (doorsWord (p .doors)) (doorsNumber (p .doors)) ++ numbered (gearsWord (p .gears)) (gearsNumber (p .gears))
 
--- A fact: 1 for seen, 0 for not.
+-- A fact: 1 for seen, 0 for not; so the ground.
 abbrev pub factField : Bool → List ℕ
 factField fact = (digit0 + bit fact) ∷ []
 
@@ -35,9 +35,9 @@ abbrev pub factFields : Seen → List (List ℕ)
 factFields seen =
     factField (seen .opened) ∷ factField (seen .closed) ∷ factField (seen .extended) ∷ factField (seen .retracted) ∷ []
 
--- What is asked: handle, doors, gears, and the facts.
+-- What is asked: ground, handle, doors, gears, and the facts.
 abbrev pub askedFields : Asked → List (List ℕ)
-askedFields a = numbered (handleWord (a .aim)) (handleNumber (a .aim)) ++ placeFields (a .place) ++ factFields (a .seen)
+askedFields a = factField (a .ground) ∷ numbered (handleWord (a .aim)) (handleNumber (a .aim)) ++ placeFields (a .place) ++ factFields (a .seen)
 
 -- The entry's number; what is asked; what comes next; and 1 if a reached state can ask it.
 abbrev pub rowFields : ℕ → Asked → List (List ℕ)
@@ -49,7 +49,7 @@ rowFields n a = decimal n ∷ (askedFields a ++ placeFields (nextOf a) ++ factFi
 unfoldable pub csvHeader : List ℕ
 csvHeader =
     joinedByCommas
-    (ascii "entry" ∷
+    (ascii "entry" ∷ ascii "on_ground" ∷
     ascii "handle" ∷ ascii "handle_number" ∷
     ascii "doors" ∷ ascii "doors_number" ∷ ascii "gears" ∷ ascii "gears_number" ∷
     ascii "all_open" ∷ ascii "all_closed" ∷ ascii "all_extended" ∷ ascii "all_retracted" ∷

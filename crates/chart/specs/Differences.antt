@@ -1,31 +1,38 @@
--- Request K4: what comes next at each of the 32 places of handle, doors and gears, and the fact that makes a difference there.
+-- Requests K4 and K7: what comes next at each of the 64 places of ground, handle, doors and gears, the fact that makes a difference there,
+-- and the places that the ground changes.
 -- Assumes nothing.
-use Prim.Native.Nat.{ℕ, _*_}
-use mathlib.Core.Bool.{Bool, true, false, cond, not, _&&_}
+use Prim.Native.Nat.{ℕ, zero, suc, _+_, _*_}
+use mathlib.Core.Bool.{Bool, true, false, cond, not, _&&_, _||_}
 use lib.Dec.{eqb}
 use Rattle.sequence.specs.declared.Aim.{Aim}
 use Rattle.sequence.specs.declared.Place.{Place}
 use Rattle.sequence.specs.declared.Seen.{Seen}
-use Rattle.sequence.specs.Moves.{moveOf}
+use Rattle.sequence.specs.Moves.{moveOn}
 use Rattle.sequence.specs.Numbers.{doorsNumber, gearsNumber}
-use Rattle.table.specs.Table.{askedAt}
+use Rattle.table.specs.declared.Asked.{Asked}
+use Rattle.table.specs.Table.{askedAt, changedByGround}
 use Rattle.chart.specs.declared.differences.Deciding.{Deciding}
 use Rattle.chart.specs.declared.differences.Deciding.the-variants.{Nothing, AllOpen, AllClosed, AllExtended, AllRetracted}
 use Rattle.chart.specs.declared.differences.Kept.{Kept}
 
 -- ---- Places
 
--- The places by their number: handle, doors, gears, the first most significant. Place k has the entries 16 k to 16 k + 15.
-abbrev pub places : ℕ
-places = 32
+-- The places by their number: ground, handle, doors, gears, the first most significant. Place k has the entries 16 k to 16 k + 15. So many
+-- are in the air; as many are behind them, on ground.
+abbrev pub placesInTheAir : ℕ
+placesInTheAir = 32
+
+-- What is asked at place k, with none of the facts seen.
+abbrev pub standAt : ℕ → Asked
+standAt k = askedAt (16 * k)
 
 -- What the handle of place k aims at.
 abbrev pub aimAt : ℕ → Aim
-aimAt k = askedAt (16 * k) .aim
+aimAt k = standAt k .aim
 
 -- Doors and gears of place k.
 abbrev pub placeOf : ℕ → Place
-placeOf k = askedAt (16 * k) .place
+placeOf k = standAt k .place
 
 -- Which of doors and gears stay as they were.
 unfoldable pub keptOf : Place → Place → Kept
@@ -61,14 +68,29 @@ isNamed AllClosed = true
 isNamed AllExtended = true
 isNamed AllRetracted = true
 
--- A fact, seen by itself, makes a difference where doors and gears stand so and the handle aims so.
-unfoldable pub decides : Aim → Place → Deciding → Bool
-decides aim from fact = not (stays (keptOf (moveOf aim from (alone fact)) (moveOf aim from (alone Nothing))))
+-- What comes next of what is asked, where a fact is seen by itself.
+abbrev pub nextWith : Asked → Deciding → Place
+nextWith a fact = moveOn (a .ground) (a .aim) (a .place) (alone fact)
+
+-- A fact, seen by itself, makes a difference there.
+unfoldable pub decides : Asked → Deciding → Bool
+decides a fact = not (stays (keptOf (nextWith a fact) (nextWith a Nothing)))
 
 -- The fact that makes a difference there.
-unfoldable pub decisive : Aim → Place → Deciding
-decisive aim from =
-    cond (decides aim from AllOpen) AllOpen
-    (cond (decides aim from AllClosed) AllClosed
-    (cond (decides aim from AllExtended) AllExtended
-    (cond (decides aim from AllRetracted) AllRetracted Nothing)))
+unfoldable pub decisive : Asked → Deciding
+decisive a =
+    cond (decides a AllOpen) AllOpen
+    (cond (decides a AllClosed) AllClosed
+    (cond (decides a AllExtended) AllExtended
+    (cond (decides a AllRetracted) AllRetracted Nothing)))
+
+-- ---- The ground
+
+-- Of the first so many entries of place k some is another on ground than in the air.
+unfoldable pub someChanged : ℕ → ℕ → Bool
+someChanged k zero = false
+someChanged k (suc n) = someChanged k n || changedByGround (16 * k + n)
+
+-- Some of its sixteen is.
+unfoldable pub differs : ℕ → Bool
+differs k = someChanged k 16

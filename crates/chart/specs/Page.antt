@@ -1,5 +1,6 @@
--- Request K4: the table as a page to print (SVG, A3 upright): the 32 places of handle, doors and gears, and what comes next at
--- each. Facts that make no difference are left out, and places that no reached state is at are grey.
+-- Requests K4 and K7: the table as a page to print (SVG, A3 upright): the 32 places of handle, doors and gears in the air, what comes next
+-- at each, and the places that are others on ground. Facts that make no difference are left out, and places that no reached state is at are
+-- grey.
 -- Assumes nothing.
 use Prim.Native.Nat.{ℕ, _+_, _*_}
 use Prim.Native.String.{String}
@@ -8,17 +9,16 @@ use mathlib.Core.List.{List, [], _∷_, _++_, flatten}
 use Rattle.common.specs.Ascii.{ascii}
 use Rattle.common.specs.Decimal.{decimal}
 use Rattle.common.specs.Lists.{givenFrom}
-use Rattle.sequence.specs.declared.Aim.{Aim}
+use Rattle.table.specs.declared.Asked.{Asked}
 use Rattle.sequence.specs.declared.Place.{Place}
-use Rattle.sequence.specs.Moves.{moveOf}
 use Rattle.sequence.specs.Places.{movingHaveOpen}
 use Rattle.names.specs.Words.{doorsWord, gearsWord}
 use Rattle.table.specs.Sums.{tableNumber}
 use Rattle.chart.specs.declared.differences.Deciding.{Deciding}
 use Rattle.chart.specs.declared.differences.Deciding.the-variants.{Nothing, AllOpen, AllClosed, AllExtended, AllRetracted}
 use Rattle.chart.specs.declared.differences.Kept.{Kept}
-use Rattle.chart.specs.Differences.{places, aimAt, placeOf, keptOf, stays, alone, isNamed, decisive}
-use Rattle.chart.specs.Headings.{left, top, headingsText}
+use Rattle.chart.specs.Differences.{placesInTheAir, standAt, keptOf, stays, nextWith, isNamed, decisive, differs}
+use Rattle.chart.specs.Headings.{left, top, headingsText, groundLeft, groundTop, firstShown, groundHeadingsText}
 use Rattle.chart.specs.Parts.{
   line,
   groupPiece,
@@ -49,10 +49,10 @@ use Rattle.chart.specs.Parts.{
 
 -- ---- A place
 
--- Its frame, grey where no reached state is there.
-unfoldable pub frameText : ℕ → Bool → List ℕ
-frameText k possible =
-    groupPiece ++ cond possible possiblePiece neverPiece ++ movedPiece ++ decimal (left k) ++ spacePiece ++ decimal (top k) ++ rectPiece
+-- Its frame, so far across and so far down, grey where no reached state is there.
+unfoldable pub frameText : ℕ → ℕ → Bool → List ℕ
+frameText across down possible =
+    groupPiece ++ cond possible possiblePiece neverPiece ++ movedPiece ++ decimal across ++ spacePiece ++ decimal down ++ rectPiece
 
 -- The numbers of its entries.
 unfoldable pub numbersText : ℕ → List ℕ
@@ -85,17 +85,24 @@ unfoldable pub nextText : Place → Place → List ℕ
 nextText from to = let kept = keptOf from to in cond (stays kept) staysPiece (partsText kept to)
 
 -- What comes next where the fact that makes a difference is not seen.
-unfoldable pub elseText : Aim → Place → List ℕ
-elseText aim from = otherwisePiece ++ nextText from (moveOf aim from (alone Nothing)) ++ endOfGroupPiece
+unfoldable pub elseText : Asked → List ℕ
+elseText a = otherwisePiece ++ nextText (a .place) (nextWith a Nothing) ++ endOfGroupPiece
 
 -- A place with its frame and its numbers: what comes next where the fact that makes a difference is seen, and where it is not.
-unfoldable pub placeText : ℕ → List ℕ
-placeText k =
-    let aim = aimAt k in
-    let from = placeOf k in
-    let fact = decisive aim from in
-    frameText k (movingHaveOpen from) ++ numbersText k ++ whenText fact ++ nextText from (moveOf aim from (alone fact)) ++
-    cond (isNamed fact) (elseText aim from) [] ++ endOfGroupPiece
+unfoldable pub placeText : ℕ → ℕ → ℕ → List ℕ
+placeText k across down =
+    let a = standAt k in
+    let fact = decisive a in
+    frameText across down (movingHaveOpen (a .place)) ++ numbersText k ++ whenText fact ++ nextText (a .place) (nextWith a fact) ++
+    cond (isNamed fact) (elseText a) [] ++ endOfGroupPiece
+
+-- Place k in the air.
+unfoldable pub airText : ℕ → List ℕ
+airText k = placeText k (left k) (top k)
+
+-- The same place on ground: it is shown exactly if it differs.
+unfoldable pub groundText : ℕ → List ℕ
+groundText k = cond (differs (placesInTheAir + k)) (placeText (placesInTheAir + k) (groundLeft k) groundTop) []
 
 -- ---- The page
 
@@ -126,18 +133,19 @@ headLines =
     ".table { font-size: 36px; text-anchor: end; fill: #666 }" ∷
     "</style>" ∷
     "<rect width='2970' height='4200' style='stroke: none'/>" ∷
-    "<text class='title' x='120' y='200'>The landing gear sequence</text>" ∷
-    "<text x='120' y='290'>Find the handle, the row of the doors and the column of the gears: there stands what comes next.</text>" ∷
-    "<text x='120' y='355'>Each sample makes at most this one move. Bold and blue: what changes.</text>" ∷
+    "<text class='title' x='120' y='160'>The landing gear sequence</text>" ∷
+    "<text x='120' y='235'>Find the handle, the row of the doors and the column of the gears: there stands what comes next.</text>" ∷
+    "<text x='120' y='295'>On ground, with handle UP and gears EXTENDED, look at the bottom instead. Bold and blue: what changes.</text>" ∷
     []
 
 -- What a reader has to know.
 unfoldable pub tailLines : List String
 tailLines =
-    "<text class='note' x='120' y='3995'>Grey: gears move only while the doors are OPEN, so no run comes to these places.</text>" ∷
-    "<text class='note' x='120' y='4047'>All open, all closed: all three doors are seen so. All extended, all retracted: all three gears are seen so.</text>" ∷
-    "<text class='note' x='120' y='4099'>What is not named at a place makes no difference there. With an anomaly nothing moves.</text>" ∷
-    "<text class='note' x='120' y='4151'>Small numbers: the entries of the table that runs, 16 at each place, 512 in all. This page is written from it.</text>" ∷
+    "<text class='note' x='120' y='3967'>Grey: gears move only while the doors are OPEN, so no run comes to these places.</text>" ∷
+    "<text class='note' x='120' y='4013'>All open, all closed: all three doors are seen so. All extended, all retracted: all three gears are seen so.</text>" ∷
+    "<text class='note' x='120' y='4059'>Each sample makes at most one move, with an anomaly none. What is not named at a place makes no difference there.</text>" ∷
+    "<text class='note' x='120' y='4105'>On ground: any of the three absorbers is seen on ground. What is not shown again there is the same as above.</text>" ∷
+    "<text class='note' x='120' y='4151'>Small numbers: entries of the table that runs, 16 a place, 1,024 in all. This page is written from it.</text>" ∷
     "</svg>" ∷
     []
 
@@ -145,7 +153,13 @@ tailLines =
 unfoldable pub tableText : List ℕ
 tableText = tablePiece ++ decimal tableNumber ++ endOfTextPiece
 
--- The head, the headings of both handles, the places, the table's number, and the notes.
+-- The places in the air, under the headings of both handles; and those of the ground, under theirs.
+unfoldable pub airPart : List ℕ
+airPart = headingsText 0 ++ headingsText 16 ++ flatten (givenFrom airText 0 placesInTheAir)
+
+unfoldable pub groundPart : List ℕ
+groundPart = groundHeadingsText firstShown ++ flatten (givenFrom groundText 0 placesInTheAir)
+
+-- The head, the places in the air and on ground, the table's number, and the notes.
 unfoldable pub pageText : List ℕ
-pageText =
-    lines headLines ++ headingsText 0 ++ headingsText 16 ++ flatten (givenFrom placeText 0 places) ++ tableText ++ lines tailLines
+pageText = lines headLines ++ airPart ++ groundPart ++ tableText ++ lines tailLines

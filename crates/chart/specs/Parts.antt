@@ -1,4 +1,4 @@
--- Request K4: the pieces of the page that are the same at every place of handle, doors and gears, and at every heading.
+-- Requests K4 and K7: the pieces of the page that are the same at every place of ground, handle, doors and gears, and at every heading.
 -- Assumes nothing.
 use Prim.Native.Nat.{ℕ}
 use mathlib.Core.List.{List, [], _∷_, _++_}
@@ -30,7 +30,7 @@ spacePiece = ascii " "
 
 -- The end of the frame, and its rectangle.
 abbrev pub rectPiece : List ℕ
-rectPiece = line (ascii ")'>") ++ line (ascii "<rect width='590' height='365'/>")
+rectPiece = line (ascii ")'>") ++ line (ascii "<rect width='590' height='318'/>")
 
 -- The beginning of the line of its entries' numbers.
 abbrev pub numbersPiece : List ℕ
@@ -146,6 +146,26 @@ columnPiece = ascii "gears "
 abbrev pub rowPiece : List ℕ
 rowPiece = line (ascii "doors</text>")
 
+-- Behind the handle's word, on ground.
+abbrev pub onGroundPiece : List ℕ
+onGroundPiece = ascii ", on ground"
+
+-- Before the word of the gears that the sequence takes to be at the aim.
+abbrev pub actsPiece : List ℕ
+actsPiece = ascii "acts as if gears "
+
+-- Behind it.
+abbrev pub atAimPiece : List ℕ
+atAimPiece = ascii " were at the aim"
+
+-- Before the word of a column's doors, on ground.
+abbrev pub groundColumnPiece : List ℕ
+groundColumnPiece = ascii "doors "
+
+-- What the word before a row is of, on ground.
+abbrev pub groundRowPiece : List ℕ
+groundRowPiece = line (ascii "gears</text>")
+
 -- ---- The table's number
 
 -- The beginning of its line.
@@ -157,4 +177,4 @@ tablePiece = ascii "<text class='table' x='2840' y='4151'>table number "
 -- In the order of the list that the code has (src/parts.rt).
 unfoldable pub parts : List (List ℕ)
 parts =
-    groupPiece ∷ possiblePiece ∷ neverPiece ∷ movedPiece ∷ spacePiece ∷ rectPiece ∷ numbersPiece ∷ toPiece ∷ endOfTextPiece ∷ whenPiece ∷ alwaysPiece ∷ ifOpenPiece ∷ ifClosedPiece ∷ ifExtendedPiece ∷ ifRetractedPiece ∷ partPiece ∷ keepsPiece ∷ movesPiece ∷ doorsPiece ∷ gearsPiece ∷ staysPiece ∷ otherwisePiece ∷ endOfGroupPiece ∷ handleClass ∷ aimClass ∷ headClass ∷ kindClass ∷ acrossPiece ∷ downPiece ∷ wordsPiece ∷ handlePiece ∷ aimsPiece ∷ columnPiece ∷ rowPiece ∷ tablePiece ∷ []
+    groupPiece ∷ possiblePiece ∷ neverPiece ∷ movedPiece ∷ spacePiece ∷ rectPiece ∷ numbersPiece ∷ toPiece ∷ endOfTextPiece ∷ whenPiece ∷ alwaysPiece ∷ ifOpenPiece ∷ ifClosedPiece ∷ ifExtendedPiece ∷ ifRetractedPiece ∷ partPiece ∷ keepsPiece ∷ movesPiece ∷ doorsPiece ∷ gearsPiece ∷ staysPiece ∷ otherwisePiece ∷ endOfGroupPiece ∷ handleClass ∷ aimClass ∷ headClass ∷ kindClass ∷ acrossPiece ∷ downPiece ∷ wordsPiece ∷ handlePiece ∷ aimsPiece ∷ columnPiece ∷ rowPiece ∷ onGroundPiece ∷ actsPiece ∷ atAimPiece ∷ groundColumnPiece ∷ groundRowPiece ∷ tablePiece ∷ []

@@ -1,10 +1,9 @@
 // The table as CSV by RFC 4180: a header, and a row for each entry. The rule is specs/Csv.antt.
 // The text is put piece by piece: every function puts its piece if there is room for it, and at the top there is.
-ghost use mathlib.Core.List.{_∷_, _++_};
+ghost use mathlib.Core.List.{[], _∷_, _++_};
 ghost use mathlib.Core.Path.{_≡_};
 ghost use Rattle.common.specs.Ascii.{comma, crlf};
 ghost use Rattle.common.specs.Decimal.{decimal};
-ghost use Rattle.sequence.specs.Numbers.{handleNumber};
 ghost use Rattle.texts.specs.Puts.{PutIfRoom, putOf};
 ghost use Rattle.chart.specs.Csv.{placeFields, factField, factFields, askedFields, behind, csvRow, csvText};
 use sequence::Aim;
@@ -14,7 +13,7 @@ use table::Asked;
 use table::ENTRIES;
 
 // The names of the fields.
-const HEADER: [u8; 180] = *b"entry,\
+const HEADER: [u8; 190] = *b"entry,on_ground,\
 handle,handle_number,\
 doors,doors_number,gears,gears_number,\
 all_open,all_closed,all_extended,all_retracted,\
@@ -22,7 +21,7 @@ next_doors,next_doors_number,next_gears,next_gears_number,\
 possible\r\n";
 
 // The text has so many bytes.
-const LENGTH: usize = 32374;
+const LENGTH: usize = 66776;
 
 // Puts the table as CSV into a lent buffer: the place after it, or the same place where there is no room for it.
 pub fn put_table(out: &mut [u8], at: usize) -> usize
@@ -71,7 +70,8 @@ fn put_asked(text: &mut [u8], at: usize, asked: Asked) -> usize
     let aim = asked.aim;
     let place = asked.place;
     let facts = facts_piece(asked.seen);
-    let next = texts::put(text, at, b",");
+    let ground = ground_piece(asked.ground);
+    let next = texts::put(text, at, &ground);
     let handled = names::put_handle(text, next, aim);
     let numbered = put_field(text, handled, aim.number() as u64);
     let placed = put_place(text, numbered, place);
@@ -98,6 +98,13 @@ fn put_field(text: &mut [u8], at: usize, n: u64) -> usize
 {
     let next = texts::put(text, at, b",");
     texts::put_number(text, next, n)
+}
+
+// The field of the ground, between its commas.
+fn ground_piece(ground: bool) -> [u8; 3]
+    ensures { λ r. ⌜ r ≡ comma ∷ (factField ground ++ comma ∷ []) ⌝ }
+{
+    [b',', texts::on_off(ground), b',']
 }
 
 // The fields of the facts, each with the comma before it.

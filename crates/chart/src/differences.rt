@@ -1,11 +1,11 @@
-// What comes next at a place of handle, doors and gears, and the fact that makes a difference there. The rule is
-// specs/Differences.antt.
+// What comes next at a place of ground, handle, doors and gears, the fact that makes a difference there, and whether the ground does. The
+// rule is specs/Differences.antt.
 ghost use mathlib.Core.Bool.{cond};
 ghost use mathlib.Core.Path.{_≡_};
-ghost use Rattle.chart.specs.Differences.{keptOf, alone, isNamed, decides, decisive};
-use sequence::Aim;
+ghost use Rattle.chart.specs.Differences.{keptOf, alone, isNamed, nextWith, decides, decisive, differs};
 use sequence::Place;
 use sequence::Seen;
+use table::Asked;
 
 // The fact that makes a difference at a place.
 pub enum Deciding {
@@ -87,22 +87,44 @@ pub(crate) fn is_named(fact: Deciding) -> bool
     }
 }
 
-// The fact that makes a difference where doors and gears stand so and the handle aims so.
-pub(crate) fn decisive(aim: Aim, from: Place) -> Deciding
-    ensures { λ r. ⌜ r ≡ decisive aim from ⌝ }
+// What comes next of what is asked, where a fact is seen by itself.
+pub(crate) fn next_with(asked: Asked, fact: Deciding) -> Place
+    ensures { λ r. ⌜ r ≡ nextWith asked fact ⌝ }
 {
-    let retracted = first_of(aim, from, Deciding::AllRetracted, Deciding::Nothing);
-    let extended = first_of(aim, from, Deciding::AllExtended, retracted);
-    let closed = first_of(aim, from, Deciding::AllClosed, extended);
-    first_of(aim, from, Deciding::AllOpen, closed)
+    let from = asked.place;
+    let aim = asked.aim;
+    table::moved(from, asked.ground, aim, alone(fact))
+}
+
+// The fact that makes a difference there.
+pub(crate) fn decisive(asked: Asked) -> Deciding
+    ensures { λ r. ⌜ r ≡ decisive asked ⌝ }
+{
+    let retracted = first_of(asked, Deciding::AllRetracted, Deciding::Nothing);
+    let extended = first_of(asked, Deciding::AllExtended, retracted);
+    let closed = first_of(asked, Deciding::AllClosed, extended);
+    first_of(asked, Deciding::AllOpen, closed)
+}
+
+// Whether some entry of place k is another on ground than in the air.
+pub(crate) fn differs(k: u8) -> bool
+    ensures { λ r. ⌜ r ≡ differs k ⌝ }
+{
+    let mut some = false;
+    let mut n = 0;
+    while n < 16 {
+        some = some | table::changed_by_ground(16 * (k as usize) + n);
+        n += 1;
+    }
+    some
 }
 
 // A fact, if it makes a difference there, and else the rest.
-fn first_of(aim: Aim, from: Place, fact: Deciding, rest: Deciding) -> Deciding
-    ensures { λ r. ⌜ r ≡ cond (decides aim from fact) fact rest ⌝ }
+fn first_of(asked: Asked, fact: Deciding, rest: Deciding) -> Deciding
+    ensures { λ r. ⌜ r ≡ cond (decides asked fact) fact rest ⌝ }
 {
-    let with = table::moved(from, aim, alone(fact));
-    let without = table::moved(from, aim, alone(Deciding::Nothing));
+    let with = next_with(asked, fact);
+    let without = next_with(asked, Deciding::Nothing);
     let same = compared(with, without);
     if same.doors & same.gears {
         return rest;

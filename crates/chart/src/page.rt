@@ -1,12 +1,12 @@
 // The table as a page to print (SVG, A3 upright). The rule is specs/Page.antt.
 // The text is put piece by piece: every function puts its piece if there is room for it, and at the top there is.
 ghost use mathlib.Core.Bool.{cond};
-ghost use mathlib.Core.List.{[], flatten};
+ghost use mathlib.Core.List.{[]};
 ghost use mathlib.Core.Path.{_≡_};
-ghost use Rattle.common.specs.Lists.{givenFrom};
+ghost use Prim.Native.Nat.{_<_};
 ghost use Rattle.names.specs.Words.{entry};
 ghost use Rattle.texts.specs.Puts.{PutIfRoom, putOf};
-ghost use Rattle.chart.specs.Differences.{places, isNamed};
+ghost use Rattle.chart.specs.Differences.{placesInTheAir, isNamed};
 ghost use Rattle.chart.specs.Page.{
   frameText,
   numbersText,
@@ -16,25 +16,33 @@ ghost use Rattle.chart.specs.Page.{
   nextText,
   elseText,
   placeText,
+  groundText,
+  airPart,
+  groundPart,
   pageText,
 };
 ghost use Rattle.chart.specs.Parts.{parts};
 use crate::differences;
 use crate::differences::Deciding;
+use crate::headings;
+use crate::headings::GROUND_TOP;
+use crate::headings::ground_left;
 use crate::headings::left;
 use crate::headings::put_headings;
 use crate::headings::top;
 use crate::parts;
 use crate::parts::put_part;
-use sequence::Aim;
 use sequence::Place;
 use table::Asked;
 
-// There are so many places of handle, doors and gears.
-const PLACES: u8 = 32;
+// There are so many places of handle, doors and gears in the air, and as many on ground.
+const PLACES_IN_THE_AIR: u8 = 32;
+
+// The first place of the ground that differs: handle up, doors CLOSED, gears EXTENDED.
+const FIRST_SHOWN: u8 = 34;
 
 // The size, the styles and the title.
-const HEAD: [u8; 1186] =
+const HEAD: [u8; 1219] =
     *b"<svg xmlns='http://www.w3.org/2000/svg' width='297mm' height='420mm' viewBox='0 0 2970 4200'>\n\
 <title>The landing gear sequence</title>\n\
 <style>\n\
@@ -54,20 +62,21 @@ rect { fill: #fff; stroke: #333; stroke-width: 4; rx: 12px }\n\
 .table { font-size: 36px; text-anchor: end; fill: #666 }\n\
 </style>\n\
 <rect width='2970' height='4200' style='stroke: none'/>\n\
-<text class='title' x='120' y='200'>The landing gear sequence</text>\n\
-<text x='120' y='290'>Find the handle, the row of the doors and the column of the gears: there stands what comes next.</text>\n\
-<text x='120' y='355'>Each sample makes at most this one move. Bold and blue: what changes.</text>\n";
+<text class='title' x='120' y='160'>The landing gear sequence</text>\n\
+<text x='120' y='235'>Find the handle, the row of the doors and the column of the gears: there stands what comes next.</text>\n\
+<text x='120' y='295'>On ground, with handle UP and gears EXTENDED, look at the bottom instead. Bold and blue: what changes.</text>\n";
 
 // What a reader has to know.
-const TAIL: [u8; 567] =
-    *b"<text class='note' x='120' y='3995'>Grey: gears move only while the doors are OPEN, so no run comes to these places.</text>\n\
-<text class='note' x='120' y='4047'>All open, all closed: all three doors are seen so. All extended, all retracted: all three gears are seen so.</text>\n\
-<text class='note' x='120' y='4099'>What is not named at a place makes no difference there. With an anomaly nothing moves.</text>\n\
-<text class='note' x='120' y='4151'>Small numbers: the entries of the table that runs, 16 at each place, 512 in all. This page is written from it.</text>\n\
+const TAIL: [u8; 738] =
+    *b"<text class='note' x='120' y='3967'>Grey: gears move only while the doors are OPEN, so no run comes to these places.</text>\n\
+<text class='note' x='120' y='4013'>All open, all closed: all three doors are seen so. All extended, all retracted: all three gears are seen so.</text>\n\
+<text class='note' x='120' y='4059'>Each sample makes at most one move, with an anomaly none. What is not named at a place makes no difference there.</text>\n\
+<text class='note' x='120' y='4105'>On ground: any of the three absorbers is seen on ground. What is not shown again there is the same as above.</text>\n\
+<text class='note' x='120' y='4151'>Small numbers: entries of the table that runs, 16 a place, 1,024 in all. This page is written from it.</text>\n\
 </svg>\n";
 
 // The page has so many bytes.
-const LENGTH: usize = 14082;
+const LENGTH: usize = 16017;
 
 // Puts the page into a lent buffer: the place after it, or the same place where there is no room for it.
 pub fn put_page(out: &mut [u8], at: usize) -> usize
@@ -83,51 +92,70 @@ pub fn put_page(out: &mut [u8], at: usize) -> usize
     put_all(out, at)
 }
 
-// Puts the head, the headings, all places, the table's number and the notes.
+// Puts the head, the places in the air and on ground, the table's number and the notes.
 fn put_all(text: &mut [u8], at: usize) -> usize
     ensures { λ r. ⌜ PutIfRoom (now (text .entry)) at pageText (now (text .exit)) r ⌝ }
 {
     let headed = texts::put(text, at, &HEAD);
-    let up = put_headings(text, headed, 0);
-    let down = put_headings(text, up, 16);
-    let placed = put_places(text, down);
-    let opened = put_part(text, placed, parts::TABLE);
+    let placed = put_air(text, headed);
+    let grounded = put_ground(text, placed);
+    let opened = put_part(text, grounded, parts::TABLE);
     let numbered = texts::put_number(text, opened, table::table_number());
     let ended = put_part(text, numbered, parts::END);
     texts::put(text, ended, &TAIL)
 }
 
-// Puts all places.
-fn put_places(text: &mut [u8], at: usize) -> usize
-    ensures { λ r. ⌜ PutIfRoom (now (text .entry)) at (flatten (givenFrom placeText 0 places)) (now (text .exit)) r ⌝ }
+// Puts the headings of both handles, and all places in the air.
+fn put_air(text: &mut [u8], at: usize) -> usize
+    ensures { λ r. ⌜ PutIfRoom (now (text .entry)) at airPart (now (text .exit)) r ⌝ }
 {
-    let mut next = at;
+    let up = put_headings(text, at, 0);
+    let mut next = put_headings(text, up, 16);
     let mut k = 0;
-    while k < PLACES {
-        next = put_place(text, next, k);
+    while k < PLACES_IN_THE_AIR {
+        next = put_place(text, next, k, left(k), top(k));
         k += 1;
     }
     next
 }
 
-// Puts place k.
-fn put_place(text: &mut [u8], at: usize, k: u8) -> usize
-    ensures { λ r. ⌜ PutIfRoom (now (text .entry)) at (placeText k) (now (text .exit)) r ⌝ }
+// Puts the headings of the ground, and the places that differ there.
+fn put_ground(text: &mut [u8], at: usize) -> usize
+    ensures { λ r. ⌜ PutIfRoom (now (text .entry)) at groundPart (now (text .exit)) r ⌝ }
+{
+    let mut next = headings::put_ground(text, at, FIRST_SHOWN);
+    let mut k = 0;
+    while k < PLACES_IN_THE_AIR {
+        next = put_if_other(text, next, k);
+        k += 1;
+    }
+    next
+}
+
+// Puts the place of the ground that is place k in the air, if it differs from that.
+fn put_if_other(text: &mut [u8], at: usize, k: u8) -> usize
+    requires { ⌜ k < placesInTheAir ⌝ }
+    ensures { λ r. ⌜ PutIfRoom (now (text .entry)) at (groundText k) (now (text .exit)) r ⌝ }
+{
+    let here = PLACES_IN_THE_AIR + k;
+    if differences::differs(here) {
+        return put_place(text, at, here, ground_left(k), GROUND_TOP);
+    }
+    at
+}
+
+// Puts place k, so far across the page and so far down.
+fn put_place(text: &mut [u8], at: usize, k: u8, across: u64, down: u64) -> usize
+    ensures { λ r. ⌜ PutIfRoom (now (text .entry)) at (placeText k across down) (now (text .exit)) r ⌝ }
 {
     let asked = Asked::numbered(16 * (k as usize));
-    let aim = asked.aim;
     let from = asked.place;
-    let fact = differences::decisive(aim, from);
-    let framed = put_frame(text, at, k, from.moving_have_open());
+    let fact = differences::decisive(asked);
+    let framed = put_frame(text, at, across, down, from.moving_have_open());
     let numbered = put_numbers(text, framed, k);
     let said = put_when(text, numbered, fact);
-    let told = put_next(
-        text,
-        said,
-        from,
-        table::moved(from, aim, differences::alone(fact)),
-    );
-    let done = put_else(text, told, aim, from, fact);
+    let told = put_next(text, said, from, differences::next_with(asked, fact));
+    let done = put_else(text, told, asked, fact);
     put_part(text, done, parts::END_GROUP)
 }
 
@@ -141,18 +169,18 @@ fn either(first: bool, one: usize, other: usize) -> usize
     other
 }
 
-// Puts the frame of place k, grey where no reached state is there.
-fn put_frame(text: &mut [u8], at: usize, k: u8, possible: bool) -> usize
-    ensures { λ r. ⌜ PutIfRoom (now (text .entry)) at (frameText k possible) (now (text .exit)) r ⌝ }
+// Puts the frame of a place, grey where no reached state is there.
+fn put_frame(text: &mut [u8], at: usize, across: u64, down: u64, possible: bool) -> usize
+    ensures { λ r. ⌜ PutIfRoom (now (text .entry)) at (frameText across down possible) (now (text .exit)) r ⌝ }
 {
     let class = either(possible, parts::PLACE, parts::NEVER);
     let opened = put_part(text, at, parts::GROUP);
     let classed = put_part(text, opened, class);
     let moved = put_part(text, classed, parts::MOVED);
-    let across = texts::put_number(text, moved, left(k));
-    let spaced = put_part(text, across, parts::SPACE);
-    let down = texts::put_number(text, spaced, top(k));
-    put_part(text, down, parts::RECT)
+    let sided = texts::put_number(text, moved, across);
+    let spaced = put_part(text, sided, parts::SPACE);
+    let lowered = texts::put_number(text, spaced, down);
+    put_part(text, lowered, parts::RECT)
 }
 
 // Puts the numbers of its entries.
@@ -219,13 +247,14 @@ fn put_next(text: &mut [u8], at: usize, from: Place, to: Place) -> usize
 }
 
 // Puts what comes next where the fact that makes a difference is not seen; where none does, nothing.
-fn put_else(text: &mut [u8], at: usize, aim: Aim, from: Place, fact: Deciding) -> usize
-    ensures { λ r. ⌜ PutIfRoom (now (text .entry)) at (cond (isNamed fact) (elseText aim from) []) (now (text .exit)) r ⌝ }
+fn put_else(text: &mut [u8], at: usize, asked: Asked, fact: Deciding) -> usize
+    ensures { λ r. ⌜ PutIfRoom (now (text .entry)) at (cond (isNamed fact) (elseText asked) []) (now (text .exit)) r ⌝ }
 {
     if differences::is_named(fact) {
         let begun = put_part(text, at, parts::ELSE);
-        let none = differences::alone(Deciding::Nothing);
-        let told = put_next(text, begun, from, table::moved(from, aim, none));
+        let from = asked.place;
+        let next = differences::next_with(asked, Deciding::Nothing);
+        let told = put_next(text, begun, from, next);
         return put_part(text, told, parts::END_GROUP);
     }
     at

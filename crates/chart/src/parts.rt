@@ -72,17 +72,27 @@ pub(crate) const COLUMN: usize = 32;
 
 pub(crate) const ROW: usize = 33;
 
-pub(crate) const TABLE: usize = 34;
+pub(crate) const ON_GROUND: usize = 34;
+
+pub(crate) const ACTS: usize = 35;
+
+pub(crate) const AT_AIM: usize = 36;
+
+pub(crate) const GROUND_COLUMN: usize = 37;
+
+pub(crate) const GROUND_ROW: usize = 38;
+
+pub(crate) const TABLE: usize = 39;
 
 // There are so many.
-const COUNT: usize = 35;
+const COUNT: usize = 40;
 
-// All pieces, one after the other. (The blanks that two of them begin with stand at the end of a line.)
-const PARTS: [u8; 524] = *b"<g class='\
+// All pieces, one after the other. (The blanks that three of them begin with stand in a line.)
+const PARTS: [u8; 587] = *b"<g class='\
 place\
 never\
 ' transform='translate( \
-)'>\n<rect width='590' height='365'/>\n\
+)'>\n<rect width='590' height='318'/>\n\
 <text class='numbers' x='570' y='50'> to \
 </text>\n\
 <text class='when' x='28' y='56'>\
@@ -110,10 +120,14 @@ Handle \
 aims at \
 gears \
 doors</text>\n\
+, on ground\
+acts as if gears  were at the aim\
+doors \
+gears</text>\n\
 <text class='table' x='2840' y='4151'>table number ";
 
 // Where each begins, and where the last one ends.
-const STARTS: [usize; 36] = [
+const STARTS: [usize; 41] = [
     0,
     10,
     15,
@@ -149,7 +163,12 @@ const STARTS: [usize; 36] = [
     454,
     460,
     473,
-    524,
+    484,
+    501,
+    517,
+    523,
+    536,
+    587,
 ];
 
 // Puts piece k; past the last there is none.

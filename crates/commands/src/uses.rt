@@ -7,7 +7,7 @@
 //   handover show IMAGE      an image in plain words
 //   handover new TO FROM     the image FROM in the new form becomes the file TO (request K6)
 //   handover old TO FROM     the same in the old form
-//   wall csv                 the sequence's 512 entries as CSV (request K4)
+//   wall csv                 the sequence's 1,024 entries as CSV (requests K4, K7)
 //   wall page                a page to print (SVG, A3)
 // Bad use gets one line on standard error, and nothing is written.
 ghost use mathlib.Core.Path.{_≡_};

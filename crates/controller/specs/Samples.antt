@@ -20,11 +20,19 @@ unfoldable pub agreeing : List ℕ → List ℕ
 agreeing [] = []
 agreeing (b ∷ bs) = b ∷ b ∷ b ∷ agreeing bs
 
--- The sensors but handle and switch, by what all three of a kind say: gears extended, retracted, doors closed, open, and the pressure.
+-- The sensors but handle and switch, by what the absorbers say (front, left, right), and what all three of a kind do: gears extended,
+-- retracted, doors closed, open; and the pressure.
+abbrev pub restWith : List ℕ → ℕ → ℕ → ℕ → ℕ → ℕ → List ℕ
+restWith absorbers extended retracted closed opened pressurized =
+    agreeing (replicate 3 extended ++ replicate 3 retracted ++ absorbers ++ replicate 3 closed ++ replicate 3 opened ++ pressurized ∷ [])
+
 -- The absorbers say flight.
+abbrev pub flight : List ℕ
+flight = replicate 3 0
+
+-- So the others in flight.
 unfoldable pub rest : ℕ → ℕ → ℕ → ℕ → ℕ → List ℕ
-rest extended retracted closed opened pressurized =
-    agreeing (replicate 3 extended ++ replicate 3 retracted ++ replicate 3 0 ++ replicate 3 closed ++ replicate 3 opened ++ pressurized ∷ [])
+rest extended retracted closed opened pressurized = restWith flight extended retracted closed opened pressurized
 
 -- A sample by handle (1 = down), switch (1 = closed), gears extended, retracted, doors closed, open, and the pressure.
 unfoldable pub sees : ℕ → ℕ → ℕ → ℕ → ℕ → ℕ → ℕ → List ℕ

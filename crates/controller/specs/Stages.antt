@@ -7,13 +7,13 @@ use lib.Dec.{eqb}
 use Rattle.voter.specs.declared.Voter.{Voter}
 use Rattle.sequence.specs.declared.Aim.{Aim}
 use Rattle.sequence.specs.declared.Seen.{Seen}
-use Rattle.sequence.specs.Moves.{moveOf}
+use Rattle.sequence.specs.Moves.{aimInForce, moveOf}
 use Rattle.orders.specs.Timing.{grownAge, allGrown, ordersOf}
 use Rattle.monitors.specs.declared.Sight.{Sight}
 use Rattle.monitors.specs.Causes.{causeOf}
 use Rattle.controller.specs.declared.Core.{Core}
 use Rattle.controller.specs.declared.State.{State}
-use Rattle.controller.specs.Votes.{handle, sensor, allVoted, sightOf, seenOf, aimed}
+use Rattle.controller.specs.Votes.{handle, sensor, allVoted, sightOf, seenOf, aimed, onGround}
 
 -- There is an anomaly, old or new.
 unfoldable pub anomaly : Core → Bool
@@ -40,7 +40,7 @@ coreMonitors see c =
       cause = cond (anomaly c) (c .cause) (causeOf (c .orders) (c .since) see);
     }
 
--- Sequence. With an anomaly, old or new, nothing moves. Otherwise at most one move.
+-- Sequence. With an anomaly, old or new, nothing moves. Otherwise at most one move, by the aim in force.
 unfoldable pub coreSequence : Aim → Seen → Core → Core
 coreSequence aim seen c =
     record {
@@ -55,7 +55,7 @@ unfoldable pub coreOrders : Core → Core
 coreOrders c =
     record { orders = ordersOf (c .place) (anomaly c) (c .orders); since = c .since; place = c .place; cause = c .cause }
 
--- One accepted step of the core: what has elapsed, whether the voted handle changed, what it aims at, and what is seen.
+-- One accepted step of the core: what has elapsed, whether the voted handle changed, the aim in force, and what is seen.
 unfoldable pub coreStep : ℕ → Bool → Aim → Sight → Core → Core
 coreStep elapsed turned aim see c =
     coreOrders (coreSequence aim (seenOf see) (coreMonitors see (coreHandle turned (coreAges elapsed c))))
@@ -84,9 +84,17 @@ voteStage bytes s =
 unfoldable pub monitorsStage : State → State
 monitorsStage s = record { stamp = s .stamp; voters = s .voters; core = coreMonitors (sightOf (s .voters)) (s .core) }
 
+-- Request K7: the aim in force, by the votes and by the gears as they stood before the step.
+abbrev pub inForce : List Voter → Core → Aim
+inForce vs c = aimInForce (onGround vs) (aimed vs) (c .place .gears)
+
 unfoldable pub sequenceStage : State → State
 sequenceStage s =
-    record { stamp = s .stamp; voters = s .voters; core = coreSequence (aimed (s .voters)) (seenOf (sightOf (s .voters))) (s .core) }
+    record {
+      stamp = s .stamp;
+      voters = s .voters;
+      core = coreSequence (inForce (s .voters) (s .core)) (seenOf (sightOf (s .voters))) (s .core);
+    }
 
 unfoldable pub ordersStage : State → State
 ordersStage s = record { stamp = s .stamp; voters = s .voters; core = coreOrders (s .core) }

@@ -99,3 +99,7 @@ seenOf see =
 -- What the voted handle aims at.
 unfoldable pub aimed : List Voter → Aim
 aimed vs = aimOf (sensor handle vs)
+
+-- Request K7: any absorber voted on ground.
+unfoldable pub onGround : List Voter → Bool
+onGround vs = threeFrom gearShockAbsorber vs .any

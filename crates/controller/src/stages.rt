@@ -2,6 +2,7 @@
 // in this order"). Each stage takes the state and hands it back.
 ghost use mathlib.Core.Path.{_≡_};
 ghost use lib.ListN.{length};
+ghost use Rattle.sequence.specs.Moves.{aimInForce};
 ghost use Rattle.controller.specs.Stages.{
   anomaly,
   coreAges,
@@ -87,8 +88,8 @@ impl Core {
     }
 
     // At most one move, and none with an anomaly.
-    fn sequence(self, aim: Aim, seen: Seen) -> Self
-        ensures { λ r. ⌜ r ≡ coreSequence aim seen self ⌝ }
+    fn sequence(self, ground: bool, aim: Aim, seen: Seen) -> Self
+        ensures { λ r. ⌜ r ≡ coreSequence (aimInForce ground aim (self .place .gears)) seen self ⌝ }
     {
         if self.anomaly() {
             return self;
@@ -97,7 +98,7 @@ impl Core {
         Core {
             orders,
             since: self.since,
-            place: table::moved(self.place, aim, seen),
+            place: table::moved(self.place, ground, aim, seen),
             cause: self.cause,
         }
     }
@@ -174,11 +175,12 @@ impl State {
         ensures { λ r. ⌜ r ≡ sequenceStage self ⌝ }
     {
         let voters = self.voters;
-        let seen = votes::seen(voters);
+        let ground = votes::on_ground(voters);
+        let aim = votes::aim(voters);
         State {
             stamp: self.stamp,
             voters,
-            core: self.core.sequence(votes::aim(voters), seen),
+            core: self.core.sequence(ground, aim, votes::seen(voters)),
         }
     }
 

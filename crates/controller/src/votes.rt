@@ -2,7 +2,7 @@
 ghost use mathlib.Core.Path.{_≡_};
 ghost use Prim.Native.Nat.{_+_, _<_};
 ghost use lib.ListN.{length};
-ghost use Rattle.controller.specs.Votes.{allVoted, sensor, threeFrom, someInvalid, sightOf, seenOf, aimed};
+ghost use Rattle.controller.specs.Votes.{allVoted, sensor, threeFrom, someInvalid, sightOf, seenOf, aimed, onGround};
 use monitors::Sight;
 use monitors::Three;
 use sequence::Aim;
@@ -17,6 +17,8 @@ const ANALOGICAL_SWITCH: usize = 1;
 pub(crate) const GEAR_EXTENDED: usize = 2;
 
 pub(crate) const GEAR_RETRACTED: usize = 5;
+
+const GEAR_SHOCK_ABSORBER: usize = 8;
 
 pub(crate) const DOOR_CLOSED: usize = 11;
 
@@ -120,4 +122,13 @@ pub(crate) fn aim(voters: [Voter; 18]) -> Aim
         return Aim::ToExtended;
     }
     Aim::ToRetracted
+}
+
+// Whether any absorber is voted on ground.
+pub(crate) fn on_ground(voters: [Voter; 18]) -> bool
+    ensures { λ r. ⌜ r ≡ onGround voters ⌝ }
+{
+    value_at(voters, GEAR_SHOCK_ABSORBER)
+        | value_at(voters, GEAR_SHOCK_ABSORBER + 1)
+        | value_at(voters, GEAR_SHOCK_ABSORBER + 2)
 }

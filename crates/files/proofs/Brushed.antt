@@ -21,8 +21,8 @@ use Rattle.voter.proofs.InARow.{all-valid-exactly}
 use Rattle.controller.specs.declared.State.{State}
 use Rattle.controller.specs.declared.Core.{Core}
 use Rattle.controller.specs.declared.Answer.{Answer}
-use Rattle.controller.specs.Votes.{handle, sensor, threeFrom, someInvalid, sightOf, aimed, votesAt, allVoted}
-use Rattle.controller.specs.Stages.{coreStep, elapsedOf, turned, accepted}
+use Rattle.controller.specs.Votes.{handle, sensor, threeFrom, someInvalid, sightOf, aimed, onGround, votesAt, allVoted}
+use Rattle.controller.specs.Stages.{coreStep, elapsedOf, turned, inForce, accepted}
 use Rattle.controller.specs.Steps.{refusalAt, refusalOf, stepAt, stepOf}
 use Rattle.controller.specs.Start.{startedAt}
 use Rattle.controller.specs.Lamps.{greenOf, neitherAt, orangeOf, lightsOf, shownOf}
@@ -108,6 +108,10 @@ dropped-turned : (vs ws : List Voter) → turned (map countDropped vs) (map coun
 unfolding turned
 dropped-turned vs ws = rw (dropped-says handle vs, dropped-says handle ws)
 
+dropped-ground : (vs : List Voter) → onGround (map countDropped vs) ≡ onGround vs
+unfolding onGround threeFrom
+dropped-ground vs = simp dropped-says
+
 dropped-aimed : (vs : List Voter) → aimed (map countDropped vs) ≡ aimed vs
 unfolding aimed
 dropped-aimed vs = rw (dropped-says handle vs)
@@ -115,12 +119,13 @@ dropped-aimed vs = rw (dropped-says handle vs)
 -- The core's step on votes without their counts.
 abbrev coreBy : ℕ → List Voter → List Voter → Core → Core
 coreBy elapsed vs votes c =
-    coreStep elapsed (turned (map countDropped vs) (map countDropped votes)) (aimed (map countDropped votes)) (sightOf (map countDropped votes)) c
+    let dropped : List Voter = map countDropped votes in
+    coreStep elapsed (turned (map countDropped vs) dropped) (inForce dropped c) (sightOf dropped) c
 
 core-by : (s : State) (stamp : ℕ) (bytes : List ℕ) → coreOn s stamp bytes ≡ coreBy (elapsedOf (s .stamp) stamp) (s .voters) (allVoted bytes (s .voters)) (s .core)
 core-by s stamp bytes =
     let votes : List Voter = allVoted bytes (s .voters) in
-    rw (dropped-turned (s .voters) votes, dropped-aimed votes, dropped-seen votes)
+    rw (dropped-turned (s .voters) votes, dropped-aimed votes, dropped-ground votes, dropped-seen votes)
 
 dropped-accepted : (s : State) (stamp : ℕ) (bytes : List ℕ)
     → countsDropped (accepted s stamp bytes) ≡ record { stamp = stamp; voters = map countDropped (allVoted bytes (s .voters)); core = coreOn s stamp bytes }

@@ -27,7 +27,7 @@ use Rattle.laws.specs.Evenly.{evenly}
 use Rattle.laws.specs.Lesson.{switchSays}
 use Rattle.laws.specs.Bounces.{readingAt, CountsAre0}
 use Rattle.laws.proofs.Bounces.{fresh-is-quiet}
-use Rattle.settling.proofs.Demand3.{same}
+use Rattle.common.proofs.Tests.{same}
 use Rattle.lesson.specs.Replay.{replayOf}
 use Rattle.dumping.specs.Moments.{wavesOf}
 use Rattle.handing.specs.Handing.{savedOf}

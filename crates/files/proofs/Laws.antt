@@ -3,18 +3,25 @@
 -- Assumes nothing.
 use Prim.Native.Nat.{ℕ, _+_}
 use mathlib.Core.List.{List, [], _∷_}
+use mathlib.Core.Path.{_≡_, refl, sym, ap, subst, _∙_}
+use lib.Dec.{T}
 use Rattle.lines.specs.Rows.{rowsOf}
+use Rattle.sequence.specs.declared.Gears.the-variants.{Extended}
+use Rattle.controller.specs.declared.Core.{Core}
 use Rattle.controller.specs.declared.State.{State}
 use Rattle.controller.specs.declared.Answer.{Answer}
 use Rattle.controller.specs.Start.{startedAt}
 use Rattle.controller.specs.Steps.{stepOf}
+use Rattle.controller.specs.Shows.{gearsOf}
 use Rattle.controller.specs.Lamps.{shownOf}
 use Rattle.laws.specs.Reached.{Reached}
 use Rattle.laws.specs.Reached.Reached.{started, step}
-use Rattle.laws.specs.Laws.{Always, handleOf}
+use Rattle.laws.specs.Laws.{Always, handleOf, groundOf}
 use Rattle.laws.specs.GroundModel.{OneMoveOrNone}
 use Rattle.laws.specs.GroundModel.OneMoveOrNone.{no-move}
+use Rattle.laws.specs.OnGround.{Stands}
 use Rattle.laws.proofs.Ground.{follows-the-ground-model}
+use Rattle.laws.proofs.OnGround.{stands-on-its-wheels}
 use Rattle.laws.proofs.Safety.{
   opposites-never-together,
   none-of-the-four-without-general,
@@ -27,7 +34,7 @@ use Rattle.reading.specs.declared.Came.the-variants.{Nothing, Answered, Refused
 use Rattle.reading.specs.Rows.{rowOf, endOf, readFrom}
 use Rattle.common.specs.Lists.{Each}
 use Rattle.files.specs.Told.{Told, toldOf, toldFrom, told}
-use Rattle.files.specs.RowLaws.{OwnAnswer, AnsweredBy, AnsweredRight, Shows, OneMoveAtMost}
+use Rattle.files.specs.RowLaws.{OwnAnswer, AnsweredBy, AnsweredRight, Shows, OneMoveAtMost, StandsAt}
 use Rattle.files.specs.RowLaws.OwnAnswer.{starts, steps}
 use Rattle.files.specs.Shown.{LooksLawful}
 use Rattle.files.proofs.Told.{each}
@@ -57,6 +64,20 @@ module _ (Between : State → State → Type 0)
 row-reached : (t : Told) → AnsweredRight t → Reached (t .before) → Reached (t .after)
 row-reached =
     row-between (λ before after. Reached after) (λ s r. r) (λ s stamp r. started r stamp) (λ s stamp bytes r. step r stamp bytes)
+
+-- Where the core stays it stands.
+core-stays : (s later : State) → later .core ≡ s .core → gearsOf s ≡ Extended → Stands s later
+core-stays s later same extended =
+    let doors = ap (λ (c : Core). c .place .doors) same in
+    record {
+      placed =
+          record {
+            gearsStay = ap (λ (c : Core). c .place .gears) same ∙ extended;
+            notOpening = λ e. sym doors ∙ e;
+            notOpen = λ e. sym doors ∙ e;
+          };
+      notStarted = subst (λ (c : Core). T (c .orders .retracts .on)) same;
+    }
 
 -- ---- One row after the other
 
@@ -103,12 +124,23 @@ module _ (state : State) (reached : Reached state) (input : List ℕ) where
         gears-rest = door-orders-only-with-gears-at-rest s r;
       })
 
-  -- From row to row doors and gears make one move of the ground model with the CLOSING case added, or none.
+  -- From row to row doors and gears make one move of the ground model with both cases added, or none ..
   pub every-row-is-one-move-or-none : Each OneMoveAtMost (told state input)
   unfolding startedAt
   every-row-is-one-move-or-none =
       each Sound OneMoveAtMost
-      (λ t r. row-between (λ before after. OneMoveOrNone (handleOf after) (before .core .place) (after .core .place))
+      (λ t r. row-between (λ before after. OneMoveOrNone (groundOf after) (handleOf after) (before .core .place) (after .core .place))
       (λ s from. no-move) (λ s stamp from. no-move) (λ s stamp bytes from. follows-the-ground-model s from stamp bytes)
+      t (r .right) (r .from))
+      (told state input) sound
+
+  -- .. and where a row votes some absorber on ground, EXTENDED gears stay.
+  pub every-row-stands-on-its-wheels : Each StandsAt (told state input)
+  unfolding startedAt
+  every-row-stands-on-its-wheels =
+      each Sound StandsAt
+      (λ t r. row-between (λ before after. gearsOf before ≡ Extended → T (groundOf after) → Stands before after)
+      (λ s from extended ground. core-stays s s refl extended) (λ s stamp from extended ground. core-stays s (startedAt stamp s) refl extended)
+      (λ s stamp bytes from. stands-on-its-wheels s (stamp, bytes))
       t (r .right) (r .from))
       (told state input) sound

@@ -14,21 +14,19 @@ use Rattle.trace.specs.declared.Due.the-variants.{Label}
 use Rattle.trace.specs.Numbers.{greatest}
 use Rattle.trace.specs.Header.{headerText as traceHeader}
 use Rattle.trace.specs.Written.{rowText as traceRowText}
-use Rattle.sequence.specs.Moves.{aimOf}
 use Rattle.controller.specs.declared.State.{State}
 use Rattle.controller.specs.Start.{freshOf, startedAt}
 use Rattle.controller.specs.Lamps.{lightsOf, shownOf}
 use Rattle.controller.specs.Stages.{elapsedOf, anomaly}
 use Rattle.controller.specs.Steps.{limit, stepOf}
 use Rattle.controller.specs.Samples.{sees, Row, after}
-use Rattle.controller.specs.Votes.{handle, sensor}
 use Rattle.laws.specs.Bounds.{boundFor, bound}
 use Rattle.laws.specs.Reached.Reached.{fresh}
 use Rattle.laws.proofs.Computing.{runs}
-use Rattle.settling.specs.Runs.{next, isTaken, handleSays, Held, elapsedIn, elapsedSince}
-use Rattle.settling.specs.Settled.{settled}
-use Rattle.settling.specs.WorstRuns.{rowsFrom, start, firstRow, stretches, closedAtLast, late, latest, Shown}
-use Rattle.settling.proofs.Demand3.{same, goes-on, taken-and-says}
+use Rattle.settling.specs.Runs.{next, isTaken, Absorbers, Held, elapsedIn, elapsedSince}
+use Rattle.settling.specs.Settled.{settled, settledOn, UnsettledIsEarly, isSettled}
+use Rattle.settling.specs.WorstRuns.{rowsFrom, start, firstRow, stretches, closedAtLast, late, latest, Shown, inFlight}
+use Rattle.settling.proofs.Demand3.{goes-on, taken-and-held}
 use Rattle.settling.proofs.Worst.{settles-at-the-bound}
 use Rattle.reading.specs.declared.Phase.the-variants.{Rows}
 use Rattle.reading.specs.declared.Reading.{Reading}
@@ -39,7 +37,7 @@ use Rattle.reading.proofs.Starts.{behind-the-header}
 use Rattle.common.specs.Lists.{Each}
 use Rattle.files.specs.Told.{Told, toldOf, toldFrom, told}
 use Rattle.files.specs.Stretches.{elapsedOver, stateAfter, Stretch}
-use Rattle.files.specs.Between.{Accepts, HandleIs, LooksUnsettledEarly, OfEveryFile, SettlesAt}
+use Rattle.files.specs.Between.{Accepts, HeldAs, OfEveryFile, SettlesAt}
 use Rattle.files.specs.Traces.{AllBearable, InOneTrace, rowsBearing, traceBearing, dueBehind}
 use Rattle.files.proofs.Bearable.{allBits, allBearable, bearable-tested}
 use Rattle.files.proofs.EachRow.{readAt}
@@ -123,32 +121,32 @@ module _ (s : State) (zeroth first : Row) (rest : List Row) (can : InOneTrace (z
             ∙ ap (λ (ts : List Told). toldOf 2 row-0 (readAt (Rows (Label 0)) s) heard ∷ ts) (ahead .1));
       }
 
--- ---- A run with the handle held
+-- ---- A run with handle and absorbers held
 
 is-true : (t : Bool) → T t → t ≡ true
 is-true true h = refl
 is-true false h = absurd h
 
-module _ (down : Bool) (s : State) (r : Row) (rs : List Row) (h : Held down s (r ∷ rs)) where
-  is-taken : isTaken s r ≡ true
-  is-taken = is-true (isTaken s r) (taken-and-says down s r rs h .0)
+module _ (down : Bool) (these : Absorbers) where
+  is-taken : (s : State) (r : Row) (rs : List Row) → Held down these s (r ∷ rs) → isTaken s r ≡ true
+  is-taken s r rs h = is-true (isTaken s r) (taken-and-held down these s r rs h .0)
 
-  handle-is : sensor handle (next s r .voters) ≡ down
-  unfolding handleSays
-  handle-is = same (sensor handle (next s r .voters)) down (taken-and-says down s r rs h .1)
+  all-held : (n : ℕ) (s : State) (samples : List Row) → Held down these s samples → Each (HeldAs down these) (toldRows n s samples)
+  all-held n s [] h = tt
+  all-held n s (r ∷ rs) h = (taken-and-held down these s r rs h .1, all-held (n + 1) (next s r) rs (goes-on down these s r rs h))
 
-handles : (down : Bool) (n : ℕ) (s : State) (samples : List Row) → Held down s samples → Each (HandleIs down) (toldRows n s samples)
-handles down n s [] h = tt
-handles down n s (r ∷ rs) h = (handle-is down s r rs h, handles down (n + 1) (next s r) rs (goes-on down s r rs h))
+  times : (n : ℕ) (s : State) (samples : List Row) → Held down these s samples → elapsedOver (toldRows n s samples) ≡ elapsedIn s samples
+  unfolding elapsedOver elapsedIn
+  times n s [] h = refl
+  times n s (r ∷ rs) h =
+      let others = times (n + 1) (next s r) rs (goes-on down these s r rs h) in
+      let here : elapsedOf (s .stamp) (next s r .stamp) ≡ elapsedOf (s .stamp) (r .0) =
+      ap (elapsedOf (s .stamp)) (stamp-of s r (is-taken s r rs h)) in
+      omega (arith, here, others)
 
-times : (down : Bool) (n : ℕ) (s : State) (samples : List Row) → Held down s samples → elapsedOver (toldRows n s samples) ≡ elapsedIn s samples
-unfolding elapsedOver elapsedIn
-times down n s [] h = refl
-times down n s (r ∷ rs) h =
-    let others = times down (n + 1) (next s r) rs (goes-on down s r rs h) in
-    let here : elapsedOf (s .stamp) (next s r .stamp) ≡ elapsedOf (s .stamp) (r .0) =
-    ap (elapsedOf (s .stamp)) (stamp-of s r (is-taken down s r rs h)) in
-    omega (arith, here, others)
+  accepts : (s : State) (r : Row) (rs : List Row) → Held down these s (r ∷ rs) → Accepts (toldRow 1 s r)
+  unfolding isTaken
+  accepts s r rs h = ((1, ap (Answered 1) (eqb-true (stepOf s (r .0) (r .1) .refusal) 0 (is-taken s r rs h))), λ e. omega arith)
 
 after-last : (s : State) (rows : List Row) (r : Row) → after s (rows ++ r ∷ []) ≡ next (after s rows) r
 unfolding after
@@ -159,11 +157,6 @@ states : (n : ℕ) (s : State) (samples : List Row) → stateAfter s (toldRows n
 unfolding stateAfter after
 states n s [] = refl
 states n s (r ∷ rs) = states (n + 1) (next s r) rs
-
-accepts : (down : Bool) (s : State) (r : Row) (rs : List Row) → Held down s (r ∷ rs) → Accepts (toldRow 1 s r)
-unfolding isTaken
-accepts down s r rs h =
-    ((1, ap (Answered 1) (eqb-true (stepOf s (r .0) (r .1) .refusal) 0 (is-taken down s r rs h))), λ e. omega arith)
 
 -- ---- The worst run
 
@@ -192,16 +185,16 @@ told-last n s [] r = (n, refl)
 told-last n s (q ∷ rows) r =
     let others = told-last (n + 1) (next s q) rows r in (others .0, ap (λ (ts : List Told). toldRow n s q ∷ ts) (others .1))
 
--- So there is a stretch of a file over which 24,796 ms elapse with the handle held, and at its last row it is settled without red; at the
--- row in front of that, 100 ms earlier, it is not settled.
-pub settles-at-the-bound-in-a-file : SettlesAt bound limit false
-unfolding boundFor zeroth startedAt freshOf start elapsedSince after anomaly settled shownOf lightsOf
+-- So there is a stretch of a file over which 24,796 ms elapse with the handle held up in flight, and at its last row it is settled without
+-- red; at the row in front of that, 100 ms earlier, it is not settled.
+pub settles-at-the-bound-in-a-file : SettlesAt bound limit false inFlight
+unfolding boundFor zeroth startedAt freshOf start elapsedSince after anomaly settled settledOn shownOf lightsOf
 settles-at-the-bound-in-a-file =
     let early = settles-at-the-bound .0 in
     let end = settles-at-the-bound .1 in
     let behind = next start firstRow in
-    let stays : Held false start (firstRow ∷ latest) = subst⁻¹ T (ap (λ (x : Shown). x .isHeld) end) tt in
-    let wereHeld : Held false start (firstRow ∷ late) = subst⁻¹ T (ap (λ (x : Shown). x .isHeld) early) tt in
+    let stays : Held false inFlight start (firstRow ∷ latest) = subst⁻¹ T (ap (λ (x : Shown). x .isHeld) end) tt in
+    let wereHeld : Held false inFlight start (firstRow ∷ late) = subst⁻¹ T (ap (λ (x : Shown). x .isHeld) early) tt in
     let last = told-last 2 behind late lastRow in
     let are : toldRows 2 behind latest ≡ toldRows 2 behind late ++ toldRow (last .0) (after behind late) lastRow ∷ [] =
     ap (toldRows 2 behind) late-and-last ∙ last .1 in
@@ -215,24 +208,24 @@ settles-at-the-bound-in-a-file =
       is-stretch =
           subst (Stretch (freshOf 0) (traceBearing (zeroth ∷ firstRow ∷ latest)) (toldRow 1 start firstRow)) are
           (stretch-of (freshOf 0) zeroth firstRow latest worst-bears);
-      accepts = accepts false start firstRow latest stays;
+      accepts = accepts false inFlight start firstRow latest stays;
       held =
-          subst (λ (ts : List Told). Each (HandleIs false) (toldRow 1 start firstRow ∷ ts)) are
-          (handles false 1 start (firstRow ∷ latest) stays);
+          subst (λ (ts : List Told). Each (HeldAs false inFlight) (toldRow 1 start firstRow ∷ ts)) are
+          (all-held false inFlight 1 start (firstRow ∷ latest) stays);
       in-all =
           ap elapsedOver (sym are)
-          ∙ times false 2 behind latest (goes-on false start firstRow latest stays)
+          ∙ times false inFlight 2 behind latest (goes-on false inFlight start firstRow latest stays)
           ∙ ap (λ (x : Shown). x .since) end;
       settles =
-          subst (λ (t : State). T (settled (aimOf false) (t .core))) ends (subst⁻¹ T (ap (λ (x : Shown). x .isSettled) end) tt);
+          subst (λ (t : State). T (isSettled false t)) ends (subst⁻¹ T (ap (λ (x : Shown). x .isSettled) end) tt);
       not-red =
           subst (λ (t : State). T (not (anomaly (t .core)))) ends
           (subst⁻¹ (λ (isRed : Bool). T (not isRed)) (ap (λ (x : Shown). x .isRed) end) tt);
       earlier =
           ap (λ (since : ℕ). since + limit)
-          (times false 2 behind late (goes-on false start firstRow late wereHeld) ∙ ap (λ (x : Shown). x .since) early);
+          (times false inFlight 2 behind late (goes-on false inFlight start firstRow late wereHeld) ∙ ap (λ (x : Shown). x .since) early);
       not-yet =
-          subst⁻¹ (λ (t : State). T (not (settled (aimOf false) (t .core)))) (states 2 behind late)
+          subst⁻¹ (λ (t : State). T (not (isSettled false t))) (states 2 behind late)
           (subst⁻¹ (λ (isSettled : Bool). T (not isSettled)) (ap (λ (x : Shown). x .isSettled) early) tt);
     }
 
@@ -256,12 +249,12 @@ each-but-last Law [] last h = tt
 each-but-last Law (t ∷ ts) last h = (h .0, each-but-last Law ts last (h .1))
 
 -- It holds with no lower number.
-pub the-bound-cannot-drop-in-a-file : (ms : ℕ) → OfEveryFile (LooksUnsettledEarly limit ms) → bound ≤ ms
+pub the-bound-cannot-drop-in-a-file : (ms : ℕ) → OfEveryFile (UnsettledIsEarly limit ms) → bound ≤ ms
 the-bound-cannot-drop-in-a-file ms early =
     let worst = settles-at-the-bound-in-a-file in
     subst (λ (since : ℕ). since ≤ ms) (worst .earlier)
     (early (freshOf 0) (fresh 0) (worst .input) (worst .first) (worst .rest)
     (but-for-the-last (freshOf 0) (worst .input) (worst .first) (worst .rest) (worst .last) (worst .is-stretch))
-    (worst .accepts) false
-    (each-but-last (HandleIs false) (worst .first ∷ worst .rest) (worst .last) (worst .held))
+    (worst .accepts) false inFlight
+    (each-but-last (HeldAs false inFlight) (worst .first ∷ worst .rest) (worst .last) (worst .held))
     (worst .not-yet))

@@ -4,13 +4,17 @@ use Prim.Native.Nat.{ℕ, _+_}
 use mathlib.Core.List.{List, [], _∷_}
 use mathlib.Core.Logic.{_⊎_}
 use mathlib.Core.Path.{_≡_}
+use lib.Dec.{T}
 use Rattle.trace.specs.Written.{InForm}
+use Rattle.sequence.specs.declared.Gears.the-variants.{Extended}
 use Rattle.controller.specs.declared.State.{State}
 use Rattle.controller.specs.declared.Answer.{Answer}
 use Rattle.controller.specs.Start.{startedAt}
 use Rattle.controller.specs.Steps.{stepOf}
+use Rattle.controller.specs.Shows.{gearsOf}
 use Rattle.laws.specs.GroundModel.{OneMoveOrNone}
-use Rattle.laws.specs.Laws.{handleOf}
+use Rattle.laws.specs.Laws.{handleOf, groundOf}
+use Rattle.laws.specs.OnGround.{Stands}
 use Rattle.reading.specs.declared.Came.{Came}
 use Rattle.reading.specs.declared.Came.the-variants.{Nothing, Answered, Refused}
 use Rattle.common.specs.Lists.{Each}
@@ -69,10 +73,15 @@ AnsweredRight t = AnsweredBy t (t .came)
 abbrev pub Shows : (State → Type 0) → Told → Type 0
 Shows Law t = Law (t .after)
 
--- From the state before it, which the row in front of it shows, doors and gears made one move of the ground model or none, by the handle as
--- the row voted it.
+-- From the state before it, which the row in front of it shows, doors and gears made one move of the ground model or none, by the absorbers
+-- and the handle as the row voted them.
 abbrev pub OneMoveAtMost : Told → Type 0
-OneMoveAtMost t = OneMoveOrNone (handleOf (t .after)) (t .before .core .place) (t .after .core .place)
+OneMoveAtMost t = OneMoveOrNone (groundOf (t .after)) (handleOf (t .after)) (t .before .core .place) (t .after .core .place)
+
+-- Request K7: gears that are EXTENDED in front of a row stay so, doors do not become OPENING or OPEN and retract_EV does not start, where the
+-- row voted some absorber on ground.
+abbrev pub StandsAt : Told → Type 0
+StandsAt t = gearsOf (t .before) ≡ Extended → T (groundOf (t .after)) → Stands (t .before) (t .after)
 
 -- ---- One row for each row
 

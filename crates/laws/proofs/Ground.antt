@@ -1,4 +1,4 @@
--- Doors and gears follow the ground model with the CLOSING case added, and keep its two invariants, over every sequence.
+-- Doors and gears follow the ground model with the CLOSING case and request K7's added, and keep its two invariants, over every sequence.
 -- Assumes nothing.
 use Prim.Native.Nat.{ℕ}
 use mathlib.Core.List.{List}
@@ -15,10 +15,10 @@ use Rattle.sequence.specs.Moves.{place}
 use Rattle.sequence.specs.Places.{areOpen, movingHaveOpen}
 use Rattle.sequence.proofs.Moving.{moving-have-open-means}
 use Rattle.controller.specs.declared.State.{State}
-use Rattle.controller.specs.Votes.{handle, sensor, allVoted, aimed, seenOf, sightOf}
+use Rattle.controller.specs.Votes.{handle, sensor, allVoted, aimed, seenOf, sightOf, onGround}
 use Rattle.controller.specs.Stages.{anomaly, agesStage, voteStage, monitorsStage, accepted}
 use Rattle.controller.specs.Shows.{doorsOf, gearsOf}
-use Rattle.laws.specs.Laws.{Always, handleOf, FollowsTheGroundModel}
+use Rattle.laws.specs.Laws.{Always, handleOf, groundOf, FollowsTheGroundModel}
 use Rattle.laws.specs.GroundModel.{FirstInvariant, SecondInvariant, OneMoveOrNone, OfTheGroundModel}
 use Rattle.laws.specs.GroundModel.OneMoveOrNone.{one-move, no-move}
 use Rattle.laws.specs.GroundModel.OfTheGroundModel.{initially, and-then}
@@ -31,14 +31,15 @@ use Rattle.laws.proofs.Safety.{moving-gears-have-doors-open}
 abbrev watched : State → ℕ → List ℕ → State
 watched s stamp bytes = monitorsStage (voteStage bytes (agesStage stamp s))
 
-accepted-follows : (s : State) (stamp : ℕ) (bytes : List ℕ) → OneMoveOrNone (handleOf (accepted s stamp bytes)) (s .core .place) (accepted s stamp bytes .core .place)
+accepted-follows : (s : State) (stamp : ℕ) (bytes : List ℕ) → OneMoveOrNone (groundOf (accepted s stamp bytes)) (handleOf (accepted s stamp bytes)) (s .core .place) (accepted s stamp bytes .core .place)
 unfolding aimed stages coreStages
 accepted-follows s stamp bytes =
     let votes : List Voter = allVoted bytes (s .voters) in
-    unless-red (anomaly (watched s stamp bytes .core)) (sensor handle votes) (s .core .place) (seenOf (sightOf votes))
+    unless-red (anomaly (watched s stamp bytes .core)) (onGround votes) (sensor handle votes) (s .core .place) (seenOf (sightOf votes))
 
-step-follows : (s : State) → FollowsTheGroundModel s
-step-follows s stamp bytes = step-keeps (λ (t : State). OneMoveOrNone (handleOf t) (s .core .place) (t .core .place)) s stamp bytes (accepted-follows s stamp bytes) no-move
+-- From any state.
+pub step-follows : (s : State) → FollowsTheGroundModel s
+step-follows s stamp bytes = step-keeps (λ (t : State). OneMoveOrNone (groundOf t) (handleOf t) (s .core .place) (t .core .place)) s stamp bytes (accepted-follows s stamp bytes) no-move
 
 pub follows-the-ground-model : Always FollowsTheGroundModel
 follows-the-ground-model s reached = step-follows s
@@ -64,11 +65,11 @@ second doors Retracted holds closed = inr refl
 second doors Extending holds closed = absurd (closed-is-not-open doors closed (holds (inl refl)))
 second doors Retracting holds closed = absurd (closed-is-not-open doors closed (holds (inr refl)))
 
--- The ground model keeps both, with the CLOSING case added.
+-- The ground model keeps both, with the two cases added.
 of-the-model-have-open : {p : Place} → OfTheGroundModel p → T (movingHaveOpen p)
 unfolding movingHaveOpen
 of-the-model-have-open initially = tt
-of-the-model-have-open (and-then before handle move) = keeps-open (one-move move) (of-the-model-have-open before)
+of-the-model-have-open (and-then before ground handle move) = keeps-open (one-move move) (of-the-model-have-open before)
 
 pub the-model-keeps-its-invariants : (p : Place) → OfTheGroundModel p → FirstInvariant p × SecondInvariant p
 the-model-keeps-its-invariants p of =

@@ -1,6 +1,7 @@
 pub mod Stages
 pub mod Wanted
 pub mod Model
+pub mod OnGround
 pub mod Sensors
 pub mod Kept
 pub mod Watched

@@ -16,10 +16,10 @@ use Rattle.voter.specs.Counts.{CountInRange, KeepsCountRules, CountKept}
 use Rattle.voter.proofs.Kept.{fresh-is-kept}
 use Rattle.controller.specs.declared.Core.{Core}
 use Rattle.controller.specs.declared.State.{State}
-use Rattle.controller.specs.Votes.{handle, sensor, votesAt, allVoted, sightOf, seenOf, aimed}
+use Rattle.controller.specs.Votes.{handle, sensor, votesAt, allVoted, sightOf, seenOf, aimed, onGround}
 use Rattle.sequence.specs.Places.{movingHaveOpen}
 use Rattle.controller.specs.Start.{offLong, freshOrders, freshCore, freshVoters, freshOf, startedAt}
-use Rattle.controller.specs.Stages.{anomaly, coreStep, elapsedOf, agesStage, turned, voteStage, monitorsStage, sequenceStage, accepted}
+use Rattle.controller.specs.Stages.{anomaly, coreStep, elapsedOf, agesStage, turned, voteStage, monitorsStage, inForce, sequenceStage, accepted}
 use Rattle.controller.specs.Steps.{refusalOf, stepAt, stepOf}
 use Rattle.image.specs.Conditions.{Allowed}
 use Rattle.image.proofs.Keeping.{started-keeps}
@@ -36,7 +36,7 @@ use Rattle.laws.proofs.Watched.{accepted-to-13, accepted-has-cause, fre
 abbrev pub coreOn : State → ℕ → List ℕ → Core
 coreOn s stamp bytes =
     let votes : List Voter = allVoted bytes (s .voters) in
-    coreStep (elapsedOf (s .stamp) stamp) (turned (s .voters) votes) (aimed votes) (sightOf votes) (s .core)
+    coreStep (elapsedOf (s .stamp) stamp) (turned (s .voters) votes) (inForce votes (s .core)) (sightOf votes) (s .core)
 
 pub core-of-accepted : (s : State) (stamp : ℕ) (bytes : List ℕ) → accepted s stamp bytes .core ≡ coreOn s stamp bytes
 unfolding stages coreStages
@@ -90,7 +90,7 @@ accepted-allowed s stamp bytes allowed =
     let moved : Core = sequenceStage watched .core in
     orders-allow elapsed stamp (moved .since) (moved .cause) votes (moved .place) (s .core .orders)
     (votes-length bytes (s .voters) ∙ allowed .sensors)
-    (keeps-open (unless-red (anomaly (watched .core)) (sensor handle votes) (s .core .place) (seenOf (sightOf votes)))
+    (keeps-open (unless-red (anomaly (watched .core)) (onGround votes) (sensor handle votes) (s .core .place) (seenOf (sightOf votes)))
     (allowed .rules .movingHaveOpen))
     (since-aged (turned (s .voters) votes) elapsed (s .core .since))
     (accepted-to-13 s stamp bytes (allowed .causes))

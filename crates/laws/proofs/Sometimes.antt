@@ -16,8 +16,9 @@ use Rattle.image.specs.Images.{loadedAt}
 use Rattle.image.specs.Conditions.{Taken}
 use Rattle.laws.specs.Reached.{Reached}
 use Rattle.laws.specs.Reached.Reached.{fresh, loaded, step}
-use Rattle.laws.specs.Laws.{Always, AllSometimes, spokenOf}
+use Rattle.laws.specs.Laws.{Always, Sometimes, AllSometimes, spokenOf}
 use Rattle.laws.specs.Lesson.{lesson, lessonLines, brokenSwitch}
+use Rattle.laws.specs.Wheels.{wheels, wheelsLines, standsUp}
 use Rattle.laws.proofs.Computing.{runs}
 
 -- A sequence of samples from a reached state comes to a reached state: what holds always holds after every sequence.
@@ -44,6 +45,12 @@ pub a-whole-lesson : map lineOf (answers (freshOf 0) lesson) ≡ lessonLines
 unfolding runs
 a-whole-lesson = refl
 
+-- Request K7: handle up on its wheels nothing moves; when it lifts the retraction starts in that sample; doors turn round when it touches
+-- before the gears leave, and RETRACTING goes on; never red.
+pub on-and-off-its-wheels : map lineOf (answers (freshOf 0) wheels) ≡ wheelsLines
+unfolding runs
+on-and-off-its-wheels = refl
+
 -- Each test holds after its samples from a fresh start.
 abbrev eachMet : List (State → Bool) → List (List Row) → Bool
 eachMet [] runs = true
@@ -56,6 +63,11 @@ by (test ∷ tests) [] met = absurd met
 by (test ∷ tests) (rows ∷ more) met =
     let parts = and-yes (test (after (freshOf 0) rows)) (eachMet tests more) met in
     ((after (freshOf 0) rows, after-is-reached (freshOf 0) (fresh 0) rows, parts .0), by tests more (parts .1))
+
+-- A state that stands on its wheels with the handle up is reached.
+pub standing-up-is-met : Sometimes standsUp
+unfolding runs
+standing-up-is-met = by (standsUp ∷ []) (take 2 wheels ∷ []) tt .0
 
 -- Each thing that the laws speak of is met, in the lesson or with the switch that breaks: the laws are not empty.
 pub each-is-met : AllSometimes spokenOf

@@ -1,8 +1,10 @@
 -- 001, Code 1: the ground model of doors and gears, driven by the handle alone, with no sensors. Each constructor is one
--- assignment of the printed rules, in their order. Document 01 adds one case, which stands apart.
+-- assignment of the printed rules, in their order. Document 01 adds one case and request K7 another; both stand apart.
 -- Assumes nothing.
+use mathlib.Core.Bool.{Bool, true}
 use mathlib.Core.Logic.{_⊎_}
 use mathlib.Core.Path.{_≡_}
+use lib.Dec.{T}
 use Rattle.sequence.specs.declared.Doors.{Doors}
 use Rattle.sequence.specs.declared.Doors.the-variants.{Closed, Opening, Open, Closing}
 use Rattle.sequence.specs.declared.Gears.{Gears}
@@ -62,18 +64,24 @@ pub data PrintedMove : HandleStatus → Place → Place → Type 0 where
   retracts : {p q : Place} → RetractionSequence p q → PrintedMove UP p q
   outgoes : {p q : Place} → OutgoingSequence p q → PrintedMove DOWN p q
 
--- The ground model with the CLOSING case added.
-pub data Move : HandleStatus → Place → Place → Type 0 where
-  printed : {handle : HandleStatus} {p q : Place} → PrintedMove handle p q → Move handle p q
+-- Request K7: "With the handle up, gears EXTENDED and any absorber voted on ground".
+abbrev pub OnItsWheels : Bool → HandleStatus → Gears → Type 0
+OnItsWheels ground handle gears = T ground × (handle ≡ UP) × (gears ≡ Extended)
+
+-- The ground model with both cases added. On its wheels what is printed is no move: the added case stands in its place.
+pub data Move : Bool → HandleStatus → Place → Place → Type 0 where
+  printed : {ground : Bool} {handle : HandleStatus} {p q : Place} → ¬ OnItsWheels ground handle (p .gears) → PrintedMove handle p q → Move ground handle p q
   -- ADDED by document 01: "001 prints no CLOSING case for the outgoing sequence."
-  added-closing : {gears : Gears} → ¬ (gears ≡ Extended) → Move DOWN (place Closing gears) (place Opening gears)
+  added-closing : {ground : Bool} {gears : Gears} → ¬ (gears ≡ Extended) → Move ground DOWN (place Closing gears) (place Opening gears)
+  -- ADDED by request K7: there the sequence "acts as if gears were at the aim", and so r_closeDoor stands in place of the retraction.
+  added-on-ground : {from to : Doors} → CloseDoor from to → Move true UP (place from Extended) (place to Extended)
 
 -- One move of the ground model or none.
-pub data OneMoveOrNone : HandleStatus → Place → Place → Type 0 where
-  one-move : {handle : HandleStatus} {p q : Place} → Move handle p q → OneMoveOrNone handle p q
-  no-move : {handle : HandleStatus} {p : Place} → OneMoveOrNone handle p p
+pub data OneMoveOrNone : Bool → HandleStatus → Place → Place → Type 0 where
+  one-move : {ground : Bool} {handle : HandleStatus} {p q : Place} → Move ground handle p q → OneMoveOrNone ground handle p q
+  no-move : {ground : Bool} {handle : HandleStatus} {p : Place} → OneMoveOrNone ground handle p p
 
--- Where the ground model comes to from its initial state, whatever the handle does.
+-- Where the ground model comes to from its initial state, whatever ground and handle do.
 pub data OfTheGroundModel : Place → Type 0 where
   initially : OfTheGroundModel initial
-  and-then : {p q : Place} → OfTheGroundModel p → (handle : HandleStatus) → Move handle p q → OfTheGroundModel q
+  and-then : {p q : Place} → OfTheGroundModel p → (ground : Bool) (handle : HandleStatus) → Move ground handle p q → OfTheGroundModel q

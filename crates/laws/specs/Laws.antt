@@ -7,7 +7,7 @@ use Prim.Native.Nat.{ℕ}
 use lib.Dec.{T, eqb}
 use Rattle.sequence.specs.Places.{areClosed, areOpen}
 use Rattle.controller.specs.declared.State.{State}
-use Rattle.controller.specs.Votes.{handle, sensor}
+use Rattle.controller.specs.Votes.{handle, sensor, onGround}
 use Rattle.controller.specs.Steps.{stepOf}
 use Rattle.controller.specs.Shows.{generalEV, closeEV, openEV, retractEV, extendEV, doorsOf, gearsMove, gearsRest, red, invalidSensor}
 use Rattle.image.specs.Items.{lastCause}
@@ -48,6 +48,10 @@ statusOf false = UP
 abbrev pub handleOf : State → HandleStatus
 handleOf s = statusOf (sensor handle (s .voters))
 
+-- Request K7: whether they say that any absorber is on ground.
+abbrev pub groundOf : State → Bool
+groundOf s = onGround (s .voters)
+
 -- ---- Over every sequence of samples, refused ones among them, from a fresh start or a taken image
 
 -- A law holds of every reached state.
@@ -81,12 +85,12 @@ GearOrdersOnlyWithDoorsOpen s = (T (retractEV s) → T (areOpen (doorsOf s))) ×
 abbrev pub DoorOrdersOnlyWithGearsAtRest : State → Type 0
 DoorOrdersOnlyWithGearsAtRest s = (T (openEV s) → T (gearsRest s)) × (T (closeEV s) → T (gearsRest s))
 
--- Doors and gears follow the ground model with the CLOSING case added, each step (a refused one too) being one move of it or
--- none, by the handle as this step voted it.
+-- Doors and gears follow the ground model with the CLOSING case added, and request K7's, each step (a refused one too) being one move of
+-- it or none, by the absorbers and the handle as this step voted them.
 abbrev pub FollowsTheGroundModel : State → Type 0
 FollowsTheGroundModel s =
     (stamp : ℕ) (bytes : List ℕ) →
-    OneMoveOrNone (handleOf (stepOf s stamp bytes .state)) (s .core .place) (stepOf s stamp bytes .state .core .place)
+    let later : State = stepOf s stamp bytes .state in OneMoveOrNone (groundOf later) (handleOf later) (s .core .place) (later .core .place)
 
 -- ---- None of these laws is empty
 

@@ -8,9 +8,11 @@ pub mod Ages
 pub mod Starts
 pub mod Latched
 pub mod Laws
+pub mod OnGround
 pub mod Cases
 pub mod Evenly
 pub mod Lesson
+pub mod Wheels
 pub mod HandedOver
 pub mod Wall
 pub mod Loading

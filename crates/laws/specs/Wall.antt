@@ -1,4 +1,5 @@
--- Request K4: what a step asks of the sequence's table, what it makes of the answer, and which of the 512 entries can be asked.
+-- Request K4: what a step asks of the sequence's table, what it makes of the answer, and which of its entries can be asked. Request K7: on
+-- ground or in the air.
 -- Assumes nothing.
 use Prim.Native.Nat.{ℕ}
 use mathlib.Core.List.{List}
@@ -8,14 +9,14 @@ use Rattle.voter.specs.declared.Voter.{Voter}
 use Rattle.table.specs.declared.Asked.{Asked}
 use Rattle.table.specs.Table.{numberOf, entryAt, canBeAsked}
 use Rattle.controller.specs.declared.State.{State}
-use Rattle.controller.specs.Votes.{allVoted, sightOf, seenOf, aimed}
+use Rattle.controller.specs.Votes.{allVoted, sightOf, seenOf, aimed, onGround}
 use Rattle.controller.specs.Steps.{stepOf}
 
--- What an accepted sample asks: handle and facts as it votes them, doors and gears as they stood before it.
+-- What an accepted sample asks: ground, handle and facts as it votes them, doors and gears as they stood before it.
 abbrev pub askedBy : State → List ℕ → Asked
 askedBy s bytes =
     let votes : List Voter = allVoted bytes (s .voters) in
-    record { aim = aimed votes; place = s .core .place; seen = seenOf (sightOf votes) }
+    record { ground = onGround votes; aim = aimed votes; place = s .core .place; seen = seenOf (sightOf votes) }
 
 -- After an accepted sample without an anomaly, doors and gears are what the table tells at the number that was asked.
 abbrev pub TheTableRuns : State → Type 0
@@ -31,4 +32,8 @@ AsksWhatCanBeAsked s = (bytes : List ℕ) → T (canBeAsked (numberOf (askedBy s
 
 -- So many entries can be.
 abbrev pub canBeAskedInAll : ℕ
-canBeAskedInAll = 320
+canBeAskedInAll = 640
+
+-- So many on ground are other than in the air.
+abbrev pub changedInAll : ℕ
+changedInAll = 64

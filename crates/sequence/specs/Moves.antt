@@ -1,4 +1,4 @@
--- Document 01, "Sequence" (001, Code 1 with its sensors): at most one move of doors and gears.
+-- Document 01, "Sequence" (001, Code 1 with its sensors): at most one move of doors and gears. Request K7: on ground.
 -- Assumes nothing.
 use mathlib.Core.Bool.{Bool, true, false, cond}
 use Rattle.sequence.specs.declared.Doors.{Doors}
@@ -17,6 +17,11 @@ place doors gears = record { doors = doors; gears = gears }
 abbrev pub aimOf : Bool → Aim
 aimOf true = ToExtended
 aimOf false = ToRetracted
+
+-- The handle up.
+abbrev pub isUp : Aim → Bool
+isUp ToRetracted = true
+isUp ToExtended = false
 
 -- Gears at the aim.
 unfoldable pub atAim : Aim → Gears → Bool
@@ -65,3 +70,19 @@ doorsHome p seen = homeFrom (p .doors) (p .gears) seen
 -- At most one move, by whether the gears are at the aim.
 unfoldable pub moveOf : Aim → Place → Seen → Place
 moveOf aim p seen = cond (atAim aim (p .gears)) (doorsHome p seen) (doorsToGears aim p seen)
+
+-- ---- Request K7: on its wheels
+
+-- "With the handle up, gears EXTENDED and any absorber voted on ground, the sequence now acts as if gears were at the aim." EXTENDED gears
+-- are at the aim of the handle down: then this is the aim in force, and else the handle's own is.
+unfoldable pub aimInForce : Bool → Aim → Gears → Aim
+aimInForce false aim gears = aim
+aimInForce true ToRetracted Retracted = ToRetracted
+aimInForce true ToRetracted Extending = ToRetracted
+aimInForce true ToRetracted Extended = ToExtended
+aimInForce true ToRetracted Retracting = ToRetracted
+aimInForce true ToExtended gears = ToExtended
+
+-- At most one move, on ground or in the air.
+abbrev pub moveOn : Bool → Aim → Place → Seen → Place
+moveOn ground aim p seen = moveOf (aimInForce ground aim (p .gears)) p seen

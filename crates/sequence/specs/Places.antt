@@ -1,4 +1,4 @@
--- Where doors and gears stand, as document 01's rules and laws and request K3's rules ask it.
+-- Where doors and gears stand, as document 01's rules and laws and the rules of requests K3 and K7 ask it.
 -- Assumes nothing.
 use mathlib.Core.Bool.{Bool, true, false, not, _||_}
 use Rattle.sequence.specs.declared.Doors.{Doors}
@@ -20,6 +20,13 @@ areOpen Closed = false
 areOpen Opening = false
 areOpen Open = true
 areOpen Closing = false
+
+-- Gears EXTENDED.
+abbrev pub areExtended : Gears → Bool
+areExtended Retracted = false
+areExtended Extending = false
+areExtended Extended = true
+areExtended Retracting = false
 
 -- Gears EXTENDING or RETRACTING.
 abbrev pub areMoving : Gears → Bool

@@ -5,6 +5,7 @@ pub mod Left
 pub mod Quiet
 pub mod Stays
 pub mod CoreSettles
+pub mod InForce
 pub mod Demand3
 pub mod Worst
 pub mod Sequences

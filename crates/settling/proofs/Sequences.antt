@@ -6,16 +6,13 @@ use mathlib.Core.Path.{_≡_, refl, sym, ap, subst, _∙_}
 use Prim.Native.Nat.{ℕ}
 use native.Mathlib.Omega.{arith}
 use borrow.Author.Tests.{eqb-false}
-use Rattle.sequence.specs.declared.Aim.{Aim}
-use Rattle.sequence.specs.Moves.{aimOf}
-use Rattle.controller.specs.declared.Core.{Core}
 use Rattle.controller.specs.declared.State.{State}
 use Rattle.controller.specs.Steps.{limit, stepOf}
 use Rattle.controller.specs.Samples.{Row, after}
 use Rattle.controller.proofs.Refusals.{refused-stays}
 use Rattle.laws.specs.Bounds.{boundFor, bound}
 use Rattle.settling.specs.Runs.{next, isTaken, Held, elapsedSince}
-use Rattle.settling.specs.Settled.{SettledWithin, UnsettledIsEarly, OfEveryRun}
+use Rattle.settling.specs.Settled.{SettledWithin, UnsettledIsEarly, isSettled, OfEveryRun}
 use Rattle.settling.specs.Sequences.{takenOf, OfEverySequence}
 use Rattle.settling.proofs.Demand3.{demand-3, unsettled-is-early}
 
@@ -35,21 +32,21 @@ after-taken s (r ∷ rs) = by (isTaken s r) refl (after-taken (next s r) rs) whe
   by true e others = others
   by false e others = ap (λ (t : State). after t (takenOf (next s r) rs)) (sym (stays s r e)) ∙ others
 
--- What is said of every run of accepted samples, and of any core where none was accepted, is said of every list.
-of-every-sequence : (Says : ℕ → Aim → Core → Type 0) → ((aim : Aim) (c : Core) → Says 0 aim c) → OfEveryRun Says → OfEverySequence Says
+-- What is said of every run of accepted samples, and of any state where none was accepted, is said of every list.
+of-every-sequence : (Says : ℕ → Bool → Type 0) → ((at-last : Bool) → Says 0 at-last) → OfEveryRun Says → OfEverySequence Says
 unfolding elapsedSince
-of-every-sequence Says none ofRuns s reached down rows stays =
-    subst (λ (t : State). Says (elapsedSince s (takenOf s rows)) (aimOf down) (t .core)) (after-taken s rows) (by (takenOf s rows) stays) where
-      by : (taken : List Row) → Held down s taken → Says (elapsedSince s taken) (aimOf down) (after s taken .core)
-      by [] held = none (aimOf down) (after s [] .core)
-      by (first ∷ rest) held = ofRuns s reached down first rest held
+of-every-sequence Says none ofRuns s reached down these rows stays =
+    subst (λ (t : State). Says (elapsedSince s (takenOf s rows)) (isSettled down t)) (after-taken s rows) (by (takenOf s rows) stays) where
+      by : (taken : List Row) → Held down these s taken → Says (elapsedSince s taken) (isSettled down (after s taken))
+      by [] held = none (isSettled down (after s []))
+      by (first ∷ rest) held = ofRuns s reached down these first rest held
 
 -- Demand 3: once the accepted elapsed times since the first accepted sample add up to 24,796 ms, red is latched or it is settled.
 pub demand-3-of-any-samples : OfEverySequence (SettledWithin bound)
 unfolding boundFor
-demand-3-of-any-samples = of-every-sequence (SettledWithin bound) (λ aim c late. absurd (omega arith)) demand-3
+demand-3-of-any-samples = of-every-sequence (SettledWithin bound) (λ at-last late. absurd (omega arith)) demand-3
 
 -- And what is stronger.
 pub unsettled-is-early-of-any-samples : OfEverySequence (UnsettledIsEarly limit bound)
 unfolding boundFor
-unsettled-is-early-of-any-samples = of-every-sequence (UnsettledIsEarly limit bound) (λ aim c unsettled. omega arith) unsettled-is-early
+unsettled-is-early-of-any-samples = of-every-sequence (UnsettledIsEarly limit bound) (λ at-last unsettled. omega arith) unsettled-is-early

@@ -1,13 +1,14 @@
 -- What is settled stays so while the aim stays: red is kept, and doors CLOSED with gears at the aim have no move. So what is not
 -- settled at the end was not settled before, and each step on the way was quiet.
 -- Assumes nothing.
-use mathlib.Core.Bool.{Bool, true, false, cond, not, _||_}
+use mathlib.Core.Bool.{Bool, true, false, cond, not}
 use mathlib.Core.List.{List, [], _∷_}
 use mathlib.Core.Logic.{⊎-elim}
 use mathlib.Core.Path.{_≡_, refl, subst⁻¹}
 use Prim.Native.Nat.{ℕ}
 use lib.Dec.{T, eqb, T-not, not-T}
 use mir.Facts.{or-yes}
+use Rattle.common.proofs.Tests.{one-way, other-way}
 use Rattle.sequence.specs.declared.Doors.{Doors}
 use Rattle.sequence.specs.declared.Doors.the-variants.{Closed, Opening, Open, Closing}
 use Rattle.sequence.specs.declared.Gears.{Gears}
@@ -24,14 +25,6 @@ use Rattle.settling.specs.CoreRuns.{Told, coreNext, coreAfter}
 use Rattle.settling.proofs.Quiet.{Quiet, red-or-quiet}
 
 -- ---- Two ways to be settled
-
-one-way : (a b : Bool) → T a → T (a || b)
-one-way true b h = tt
-one-way false b h = absurd h
-
-other-way : (a b : Bool) → T b → T (a || b)
-other-way true b h = tt
-other-way false b h = h
 
 module _ (aim : Aim) (c : Core) where
   red-settles : T (anomaly c) → Settled aim c

@@ -10,8 +10,8 @@ use Rattle.laws.specs.Bounds.{boundFor, bound}
 use Rattle.laws.specs.Reached.{Reached}
 use Rattle.laws.specs.Reached.Reached.{fresh}
 use Rattle.laws.proofs.Computing.{runs}
-use Rattle.settling.specs.Runs.{isTaken, handleSays, held, elapsedIn, elapsedSince}
-use Rattle.settling.specs.Settled.{settled, UnsettledIsEarly, OfEveryRun}
+use Rattle.settling.specs.Runs.{isTaken, handleSays, absorbersSay, heldAs, held, elapsedIn, elapsedSince}
+use Rattle.settling.specs.Settled.{settled, settledOn, UnsettledIsEarly, OfEveryRun}
 use Rattle.settling.specs.WorstRuns.{
   rowsFrom,
   start,
@@ -22,6 +22,7 @@ use Rattle.settling.specs.WorstRuns.{
   latest,
   unpressurized,
   Shown,
+  inFlight,
   shown,
 }
 
@@ -34,7 +35,7 @@ pub settles-at-the-bound :
     (shown late ≡ record { isHeld = true; since = bound - limit; isRed = false; isSettled = false }) ×
     (shown latest ≡ record { isHeld = true; since = bound; isRed = false; isSettled = true })
 unfolding
-    runs boundFor settled isTaken handleSays held elapsedIn elapsedSince
+    runs boundFor settled settledOn isTaken handleSays absorbersSay heldAs held elapsedIn elapsedSince
     rowsFrom start firstRow stretches closedAtLast late latest
 settles-at-the-bound = (refl, refl)
 
@@ -44,11 +45,11 @@ unfolding boundFor
 the-bound-cannot-drop ms early =
     let last = settles-at-the-bound .0 in
     subst (λ (since : ℕ). since + limit ≤ ms) (ap (λ (x : Shown). x .since) last)
-    (early start starts-fresh false firstRow late
+    (early start starts-fresh false inFlight firstRow late
     (subst⁻¹ T (ap (λ (x : Shown). x .isHeld) last) tt)
     (subst⁻¹ (λ (isSettled : Bool). T (not isSettled)) (ap (λ (x : Shown). x .isSettled) last) tt))
 
 -- Doors OPENING settle too, once red is lit.
 pub red-settles-too : shown unpressurized ≡ record { isHeld = true; since = 2000; isRed = true; isSettled = true }
-unfolding runs settled isTaken handleSays held elapsedIn elapsedSince rowsFrom start firstRow unpressurized
+unfolding runs settled settledOn isTaken handleSays absorbersSay heldAs held elapsedIn elapsedSince rowsFrom start firstRow unpressurized
 red-settles-too = refl

@@ -6,14 +6,13 @@ use mathlib.Core.Bool.{Bool, false}
 use mathlib.Core.List.{List, [], _∷_, _++_}
 use Prim.Native.Nat.{ℕ, _+_, _*_}
 use lib.ListN.{replicate}
-use Rattle.sequence.specs.Moves.{aimOf}
 use Rattle.controller.specs.declared.State.{State}
 use Rattle.controller.specs.Start.{freshOf}
 use Rattle.controller.specs.Stages.{anomaly}
 use Rattle.controller.specs.Samples.{sees, Row, after}
 use Rattle.laws.specs.Evenly.{evenly}
-use Rattle.settling.specs.Runs.{held, elapsedSince}
-use Rattle.settling.specs.Settled.{settled}
+use Rattle.settling.specs.Runs.{Absorbers, held, elapsedSince}
+use Rattle.settling.specs.Settled.{isSettled}
 
 -- Some samples with the same bytes, each so many ms after the one before.
 pub record Stretch : Type 0 where
@@ -78,19 +77,23 @@ unpressurized = rowsFrom 1001 (stretch 20 100 1 0 0 0 0 ∷ [])
 
 -- ---- What is said of these runs
 
--- What a run with the handle up shows at its last sample: the handle was held, the time since its first sample, red, settled.
+-- What a run with the handle up shows at its last sample: handle and absorbers were held, the time since its first sample, red, settled.
 pub record Shown : Type 0 where
   pub isHeld : Bool
   pub since : ℕ
   pub isRed : Bool
   pub isSettled : Bool
 
+-- No absorber is on ground.
+abbrev pub inFlight : Absorbers
+inFlight = (false, false, false)
+
 -- The run of the first sample and these.
 abbrev pub shown : List Row → Shown
 shown rest =
     record {
-      isHeld = held false start (firstRow ∷ rest);
+      isHeld = held false inFlight start (firstRow ∷ rest);
       since = elapsedSince start (firstRow ∷ rest);
       isRed = anomaly (after start (firstRow ∷ rest) .core);
-      isSettled = settled (aimOf false) (after start (firstRow ∷ rest) .core);
+      isSettled = isSettled false (after start (firstRow ∷ rest));
     }

@@ -8,6 +8,8 @@ use Rattle.table.proofs.all_entries.Kinds as all-entries-kinds
 use Rattle.table.proofs.all_entries.Reads as all-entries-reads
 use Rattle.table.proofs.table_number.Kinds as table-number-kinds
 use Rattle.table.proofs.table_number.Reads as table-number-reads
+use Rattle.table.proofs.changed_by_ground.Kinds as changed-by-ground-kinds
+use Rattle.table.proofs.changed_by_ground.Reads as changed-by-ground-reads
 use Rattle.table.proofs.Asked.number.Kinds as asked-number-kinds
 use Rattle.table.proofs.Asked.number.Reads as asked-number-reads
 use Rattle.table.proofs.Asked.numbered.Kinds as asked-numbered-kinds
@@ -23,6 +25,9 @@ all-entries-once κs a x y s t p q = p ∙ sym q
 
 pub table-number-once : OneAnswer 0 table-number-kinds.ps table-number-kinds.r table-number-reads.Post
 table-number-once κs a x y s t p q = p ∙ sym q
+
+pub changed-by-ground-once : OneAnswer 0 changed-by-ground-kinds.ps changed-by-ground-kinds.r changed-by-ground-reads.Post
+changed-by-ground-once κs a x y s t p q = p ∙ sym q
 
 pub asked-number-once : OneAnswer 0 asked-number-kinds.ps asked-number-kinds.r asked-number-reads.Post
 asked-number-once κs a x y s t p q = p ∙ sym q

@@ -8,13 +8,13 @@ use mathlib.Core.List.{flatten}
 use mathlib.Core.Path.{_≡_, refl, sym, ap, _∙_}
 use Rattle.common.specs.Lists.{givenFrom}
 use Rattle.sequence.specs.declared.Place.{Place}
-use Rattle.sequence.specs.Moves.{atAim, nextGears, doorsToGears, doorsHome, moveOf}
+use Rattle.sequence.specs.Moves.{atAim, nextGears, doorsToGears, doorsHome, moveOf, aimInForce}
 use Rattle.sequence.specs.Numbers.{doorsAt, gearsAt}
 use Rattle.sequence.proofs.Numbering.{doors-to-3, gears-to-3}
 use Rattle.table.specs.Sums.{weighedFrom, weighedAt, tableNumber}
 use Rattle.table.specs.Table.{entries, factsAt, askedAt, nextOf, placeNumber, ruledAt, rowAt, table}
 
--- The 64 rows, one behind the other, are the 512 entries.
+-- The 64 rows, one behind the other, are the 1,024 entries.
 pub rows-are-entries : flatten table ≡ givenFrom ruledAt 0 entries
 unfolding givenFrom flatten rowAt table
 rows-are-entries = refl
@@ -51,15 +51,15 @@ pub place-to-15 : (p : Place) → placeNumber p ≤ 15
 unfolding placeNumber
 place-to-15 p = omega (arith, doors-to-3 (p .doors), gears-to-3 (p .gears))
 
--- No entry adds more than 512 times 15.
-pub weighed-to : (n : ℕ) → n < entries → weighedAt n ≤ 7680
+-- No entry adds more than 1,024 times 15.
+pub weighed-to : (n : ℕ) → n < entries → weighedAt n ≤ 15360
 unfolding ruledAt
-weighed-to n h = mul-le-mul {n₂ = 512} {m₂ = 15} (omega (arith, h)) (place-to-15 (nextOf (askedAt n)))
+weighed-to n h = mul-le-mul {n₂ = 1024} {m₂ = 15} (omega (arith, h)) (place-to-15 (nextOf (askedAt n)))
 
 -- ---- The number
 
 -- The table's number, computed.
-pub table-number : tableNumber ≡ 1016708
-unfolding atAim nextGears doorsToGears doorsHome moveOf doorsAt gearsAt
+pub table-number : tableNumber ≡ 4087680
+unfolding atAim nextGears doorsToGears doorsHome moveOf aimInForce doorsAt gearsAt
     givenFrom factsAt askedAt nextOf placeNumber ruledAt rowAt table flatten weighedFrom tableNumber
 table-number = refl

@@ -10,7 +10,7 @@ unfoldable pub weighedFrom : ℕ → List ℕ → ℕ
 weighedFrom place [] = 0
 weighedFrom place (entry ∷ others) = place * entry + weighedFrom (suc place) others
 
--- The number of any 512 entries, in their order: an entry counts as often as its number and one say.
+-- The number of any entries, in their order: an entry counts as often as its number and one say.
 abbrev pub numberOfAll : List ℕ → ℕ
 numberOfAll all = weighedFrom 1 all
 

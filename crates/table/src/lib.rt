@@ -1,22 +1,24 @@
-// The sequence as a table (request K4): what comes next at each place of handle, doors, gears and the four facts.
+// The sequence as a table (requests K4 and K7): what comes next at each place of ground, handle, doors, gears and the four facts.
 // The rule is specs/Table.antt, which says what each entry is by the rule of `sequence`; the constant is proved to be that table.
 ghost use mathlib.Core.Path.{_≡_};
 ghost use Prim.Native.Nat.{_<_};
-ghost use Rattle.sequence.specs.Moves.{aimOf, moveOf};
+ghost use Rattle.sequence.specs.Moves.{aimOf, moveOn};
 ghost use Rattle.table.specs.Sums.{weighedAt, tableNumber};
 ghost use Rattle.table.specs.Table.{
   entries,
   factsNumber,
+  groundAndHandle,
   numberOf,
   factsAt,
   askedAt,
   nextOf,
   placeNumber,
   placeAt,
+  ruledAt,
   table,
   entryOf,
+  changedByGround,
 };
-ghost use Rattle.sequence.specs.Numbers.{handleNumber};
 use sequence::Aim;
 use sequence::Doors;
 use sequence::Gears;
@@ -24,25 +26,34 @@ use sequence::Place;
 use sequence::Seen;
 
 // There are so many entries.
-pub const ENTRIES: usize = 512;
+pub const ENTRIES: usize = 1024;
 
-// What the table is asked: handle, doors, gears, and what is seen.
+// So many of them are in the air.
+const IN_THE_AIR: usize = 512;
+
+// What the table is asked: whether any absorber is on ground, handle, doors, gears, and what is seen.
 pub struct Asked {
+    pub ground: bool,
     pub aim: Aim,
     pub place: Place,
     pub seen: Seen,
 }
 
 // At most one move of doors and gears: what the table tells.
-pub fn moved(place: Place, aim: Aim, seen: Seen) -> Place
-    ensures { λ r. ⌜ r ≡ moveOf aim place seen ⌝ }
+pub fn moved(place: Place, ground: bool, aim: Aim, seen: Seen) -> Place
+    ensures { λ r. ⌜ r ≡ moveOn ground aim place seen ⌝ }
 {
-    let asked = Asked { aim, place, seen };
+    let asked = Asked {
+        ground,
+        aim,
+        place,
+        seen,
+    };
     asked.next()
 }
 
 // The constant that the table is.
-pub fn all_entries() -> [[u8; 8]; 64]
+pub fn all_entries() -> [[u8; 16]; 64]
     ensures { λ r. ⌜ r ≡ table ⌝ }
 {
     NEXT
@@ -61,8 +72,15 @@ pub fn table_number() -> u64
     sum
 }
 
+// Whether the entry of a number, on ground, is another than in the air.
+pub fn changed_by_ground(n: usize) -> bool
+    ensures { λ r. ⌜ r ≡ changedByGround n ⌝ }
+{
+    told(n) != told(n % IN_THE_AIR)
+}
+
 impl Asked {
-    // The number of the entry, 0 to 511.
+    // The number of the entry, 0 to 1,023.
     pub fn number(self) -> usize
         ensures { λ r. ⌜ r ≡ numberOf self ⌝ }
     {
@@ -71,7 +89,7 @@ impl Asked {
         let gears = place.gears;
         let aim = self.aim;
         let facts = facts_number(self.seen);
-        256 * handle_number(aim)
+        ground_and_handle(self.ground, aim)
             + 64 * (doors.number() as usize)
             + 16 * (gears.number() as usize)
             + facts
@@ -86,6 +104,7 @@ impl Asked {
             gears: Gears::numbered((n / 16 % 4) as u32),
         };
         Asked {
+            ground: n / 512 % 2 == 1,
             aim: aim_of(n / 256 % 2 == 1),
             place,
             seen: facts_at(n),
@@ -100,112 +119,80 @@ impl Asked {
     }
 }
 
-// The next doors and gears: 4 times the doors' number and the gears'. Two rows for each place of handle, doors and gears, the
-// second with all open; in a row an entry for each set of the other facts: all closed (4), all extended (2), all retracted (1).
-const NEXT: [[u8; 8]; 64] = [
-    // handle up, doors CLOSED, gears RETRACTED
-    [0, 0, 0, 0, 0, 0, 0, 0],
-    [0, 0, 0, 0, 0, 0, 0, 0],
-    // handle up, doors CLOSED, gears EXTENDING
-    [5, 5, 5, 5, 5, 5, 5, 5],
-    [5, 5, 5, 5, 5, 5, 5, 5],
-    // handle up, doors CLOSED, gears EXTENDED
-    [6, 6, 6, 6, 6, 6, 6, 6],
-    [6, 6, 6, 6, 6, 6, 6, 6],
-    // handle up, doors CLOSED, gears RETRACTING
-    [7, 7, 7, 7, 7, 7, 7, 7],
-    [7, 7, 7, 7, 7, 7, 7, 7],
-    // handle up, doors OPENING, gears RETRACTED
-    [12, 12, 12, 12, 12, 12, 12, 12],
-    [12, 12, 12, 12, 12, 12, 12, 12],
-    // handle up, doors OPENING, gears EXTENDING
-    [5, 5, 5, 5, 5, 5, 5, 5],
-    [9, 9, 9, 9, 9, 9, 9, 9],
-    // handle up, doors OPENING, gears EXTENDED
-    [6, 6, 6, 6, 6, 6, 6, 6],
-    [10, 10, 10, 10, 10, 10, 10, 10],
-    // handle up, doors OPENING, gears RETRACTING
-    [7, 7, 7, 7, 7, 7, 7, 7],
-    [11, 11, 11, 11, 11, 11, 11, 11],
-    // handle up, doors OPEN, gears RETRACTED
-    [12, 12, 12, 12, 12, 12, 12, 12],
-    [12, 12, 12, 12, 12, 12, 12, 12],
-    // handle up, doors OPEN, gears EXTENDING
-    [11, 11, 11, 11, 11, 11, 11, 11],
-    [11, 11, 11, 11, 11, 11, 11, 11],
-    // handle up, doors OPEN, gears EXTENDED
-    [11, 11, 11, 11, 11, 11, 11, 11],
-    [11, 11, 11, 11, 11, 11, 11, 11],
-    // handle up, doors OPEN, gears RETRACTING
-    [11, 8, 11, 8, 11, 8, 11, 8],
-    [11, 8, 11, 8, 11, 8, 11, 8],
-    // handle up, doors CLOSING, gears RETRACTED
-    [12, 12, 12, 12, 0, 0, 0, 0],
-    [12, 12, 12, 12, 0, 0, 0, 0],
-    // handle up, doors CLOSING, gears EXTENDING
-    [5, 5, 5, 5, 5, 5, 5, 5],
-    [5, 5, 5, 5, 5, 5, 5, 5],
-    // handle up, doors CLOSING, gears EXTENDED
-    [6, 6, 6, 6, 6, 6, 6, 6],
-    [6, 6, 6, 6, 6, 6, 6, 6],
-    // handle up, doors CLOSING, gears RETRACTING
-    [7, 7, 7, 7, 7, 7, 7, 7],
-    [7, 7, 7, 7, 7, 7, 7, 7],
-    // handle down, doors CLOSED, gears RETRACTED
-    [4, 4, 4, 4, 4, 4, 4, 4],
-    [4, 4, 4, 4, 4, 4, 4, 4],
-    // handle down, doors CLOSED, gears EXTENDING
-    [5, 5, 5, 5, 5, 5, 5, 5],
-    [5, 5, 5, 5, 5, 5, 5, 5],
-    // handle down, doors CLOSED, gears EXTENDED
-    [2, 2, 2, 2, 2, 2, 2, 2],
-    [2, 2, 2, 2, 2, 2, 2, 2],
-    // handle down, doors CLOSED, gears RETRACTING
-    [7, 7, 7, 7, 7, 7, 7, 7],
-    [7, 7, 7, 7, 7, 7, 7, 7],
-    // handle down, doors OPENING, gears RETRACTED
-    [4, 4, 4, 4, 4, 4, 4, 4],
-    [8, 8, 8, 8, 8, 8, 8, 8],
-    // handle down, doors OPENING, gears EXTENDING
-    [5, 5, 5, 5, 5, 5, 5, 5],
-    [9, 9, 9, 9, 9, 9, 9, 9],
-    // handle down, doors OPENING, gears EXTENDED
-    [14, 14, 14, 14, 14, 14, 14, 14],
-    [14, 14, 14, 14, 14, 14, 14, 14],
-    // handle down, doors OPENING, gears RETRACTING
-    [7, 7, 7, 7, 7, 7, 7, 7],
-    [11, 11, 11, 11, 11, 11, 11, 11],
-    // handle down, doors OPEN, gears RETRACTED
-    [9, 9, 9, 9, 9, 9, 9, 9],
-    [9, 9, 9, 9, 9, 9, 9, 9],
-    // handle down, doors OPEN, gears EXTENDING
-    [9, 9, 10, 10, 9, 9, 10, 10],
-    [9, 9, 10, 10, 9, 9, 10, 10],
-    // handle down, doors OPEN, gears EXTENDED
-    [14, 14, 14, 14, 14, 14, 14, 14],
-    [14, 14, 14, 14, 14, 14, 14, 14],
-    // handle down, doors OPEN, gears RETRACTING
-    [9, 9, 9, 9, 9, 9, 9, 9],
-    [9, 9, 9, 9, 9, 9, 9, 9],
-    // handle down, doors CLOSING, gears RETRACTED
-    [4, 4, 4, 4, 4, 4, 4, 4],
-    [4, 4, 4, 4, 4, 4, 4, 4],
-    // handle down, doors CLOSING, gears EXTENDING
-    [5, 5, 5, 5, 5, 5, 5, 5],
-    [5, 5, 5, 5, 5, 5, 5, 5],
-    // handle down, doors CLOSING, gears EXTENDED
-    [14, 14, 14, 14, 2, 2, 2, 2],
-    [14, 14, 14, 14, 2, 2, 2, 2],
-    // handle down, doors CLOSING, gears RETRACTING
-    [7, 7, 7, 7, 7, 7, 7, 7],
-    [7, 7, 7, 7, 7, 7, 7, 7],
+// The next doors and gears: 4 times the doors' number and the gears'. A row for each place of ground, handle, doors and gears; in it
+// an entry for each set of the facts: all open (8), all closed (4), all extended (2), all retracted (1). `[6; 16]`: whatever is seen.
+const NEXT: [[u8; 16]; 64] = [
+    [0; 16], // handle up, doors CLOSED, gears RETRACTED
+    [5; 16], // handle up, doors CLOSED, gears EXTENDING
+    [6; 16], // handle up, doors CLOSED, gears EXTENDED
+    [7; 16], // handle up, doors CLOSED, gears RETRACTING
+    [12; 16], // handle up, doors OPENING, gears RETRACTED
+    [5, 5, 5, 5, 5, 5, 5, 5, 9, 9, 9, 9, 9, 9, 9, 9], // handle up, doors OPENING, gears EXTENDING
+    [6, 6, 6, 6, 6, 6, 6, 6, 10, 10, 10, 10, 10, 10, 10, 10], // handle up, doors OPENING, gears EXTENDED
+    [7, 7, 7, 7, 7, 7, 7, 7, 11, 11, 11, 11, 11, 11, 11, 11], // handle up, doors OPENING, gears RETRACTING
+    [12; 16], // handle up, doors OPEN, gears RETRACTED
+    [11; 16], // handle up, doors OPEN, gears EXTENDING
+    [11; 16], // handle up, doors OPEN, gears EXTENDED
+    [11, 8, 11, 8, 11, 8, 11, 8, 11, 8, 11, 8, 11, 8, 11, 8], // handle up, doors OPEN, gears RETRACTING
+    [12, 12, 12, 12, 0, 0, 0, 0, 12, 12, 12, 12, 0, 0, 0, 0], // handle up, doors CLOSING, gears RETRACTED
+    [5; 16], // handle up, doors CLOSING, gears EXTENDING
+    [6; 16], // handle up, doors CLOSING, gears EXTENDED
+    [7; 16], // handle up, doors CLOSING, gears RETRACTING
+    [4; 16], // handle down, doors CLOSED, gears RETRACTED
+    [5; 16], // handle down, doors CLOSED, gears EXTENDING
+    [2; 16], // handle down, doors CLOSED, gears EXTENDED
+    [7; 16], // handle down, doors CLOSED, gears RETRACTING
+    [4, 4, 4, 4, 4, 4, 4, 4, 8, 8, 8, 8, 8, 8, 8, 8], // handle down, doors OPENING, gears RETRACTED
+    [5, 5, 5, 5, 5, 5, 5, 5, 9, 9, 9, 9, 9, 9, 9, 9], // handle down, doors OPENING, gears EXTENDING
+    [14; 16], // handle down, doors OPENING, gears EXTENDED
+    [7, 7, 7, 7, 7, 7, 7, 7, 11, 11, 11, 11, 11, 11, 11, 11], // handle down, doors OPENING, gears RETRACTING
+    [9; 16], // handle down, doors OPEN, gears RETRACTED
+    [9, 9, 10, 10, 9, 9, 10, 10, 9, 9, 10, 10, 9, 9, 10, 10], // handle down, doors OPEN, gears EXTENDING
+    [14; 16], // handle down, doors OPEN, gears EXTENDED
+    [9; 16], // handle down, doors OPEN, gears RETRACTING
+    [4; 16], // handle down, doors CLOSING, gears RETRACTED
+    [5; 16], // handle down, doors CLOSING, gears EXTENDING
+    [14, 14, 14, 14, 2, 2, 2, 2, 14, 14, 14, 14, 2, 2, 2, 2], // handle down, doors CLOSING, gears EXTENDED
+    [7; 16], // handle down, doors CLOSING, gears RETRACTING
+    [0; 16], // on ground, handle up, doors CLOSED, gears RETRACTED
+    [5; 16], // on ground, handle up, doors CLOSED, gears EXTENDING
+    [2; 16], // on ground, handle up, doors CLOSED, gears EXTENDED
+    [7; 16], // on ground, handle up, doors CLOSED, gears RETRACTING
+    [12; 16], // on ground, handle up, doors OPENING, gears RETRACTED
+    [5, 5, 5, 5, 5, 5, 5, 5, 9, 9, 9, 9, 9, 9, 9, 9], // on ground, handle up, doors OPENING, gears EXTENDING
+    [14; 16], // on ground, handle up, doors OPENING, gears EXTENDED
+    [7, 7, 7, 7, 7, 7, 7, 7, 11, 11, 11, 11, 11, 11, 11, 11], // on ground, handle up, doors OPENING, gears RETRACTING
+    [12; 16], // on ground, handle up, doors OPEN, gears RETRACTED
+    [11; 16], // on ground, handle up, doors OPEN, gears EXTENDING
+    [14; 16], // on ground, handle up, doors OPEN, gears EXTENDED
+    [11, 8, 11, 8, 11, 8, 11, 8, 11, 8, 11, 8, 11, 8, 11, 8], // on ground, handle up, doors OPEN, gears RETRACTING
+    [12, 12, 12, 12, 0, 0, 0, 0, 12, 12, 12, 12, 0, 0, 0, 0], // on ground, handle up, doors CLOSING, gears RETRACTED
+    [5; 16], // on ground, handle up, doors CLOSING, gears EXTENDING
+    [14, 14, 14, 14, 2, 2, 2, 2, 14, 14, 14, 14, 2, 2, 2, 2], // on ground, handle up, doors CLOSING, gears EXTENDED
+    [7; 16], // on ground, handle up, doors CLOSING, gears RETRACTING
+    [4; 16], // on ground, handle down, doors CLOSED, gears RETRACTED
+    [5; 16], // on ground, handle down, doors CLOSED, gears EXTENDING
+    [2; 16], // on ground, handle down, doors CLOSED, gears EXTENDED
+    [7; 16], // on ground, handle down, doors CLOSED, gears RETRACTING
+    [4, 4, 4, 4, 4, 4, 4, 4, 8, 8, 8, 8, 8, 8, 8, 8], // on ground, handle down, doors OPENING, gears RETRACTED
+    [5, 5, 5, 5, 5, 5, 5, 5, 9, 9, 9, 9, 9, 9, 9, 9], // on ground, handle down, doors OPENING, gears EXTENDING
+    [14; 16], // on ground, handle down, doors OPENING, gears EXTENDED
+    [7, 7, 7, 7, 7, 7, 7, 7, 11, 11, 11, 11, 11, 11, 11, 11], // on ground, handle down, doors OPENING, gears RETRACTING
+    [9; 16], // on ground, handle down, doors OPEN, gears RETRACTED
+    [9, 9, 10, 10, 9, 9, 10, 10, 9, 9, 10, 10, 9, 9, 10, 10], // on ground, handle down, doors OPEN, gears EXTENDING
+    [14; 16], // on ground, handle down, doors OPEN, gears EXTENDED
+    [9; 16], // on ground, handle down, doors OPEN, gears RETRACTING
+    [4; 16], // on ground, handle down, doors CLOSING, gears RETRACTED
+    [5; 16], // on ground, handle down, doors CLOSING, gears EXTENDING
+    [14, 14, 14, 14, 2, 2, 2, 2, 14, 14, 14, 14, 2, 2, 2, 2], // on ground, handle down, doors CLOSING, gears EXTENDED
+    [7; 16], // on ground, handle down, doors CLOSING, gears RETRACTING
 ];
 
-// Handle up is 0, down is 1.
-fn handle_number(aim: Aim) -> usize
-    ensures { λ r. ⌜ r ≡ handleNumber aim ⌝ }
+// Ground and handle as a number, the ground most significant.
+fn ground_and_handle(ground: bool, aim: Aim) -> usize
+    ensures { λ r. ⌜ r ≡ groundAndHandle ground aim ⌝ }
 {
-    aim.number() as usize
+    512 * (ground as usize) + 256 * (aim.number() as usize)
 }
 
 // The facts as a number: all open, all closed, all extended, all retracted, the first most significant.
@@ -260,13 +247,20 @@ fn place_number(place: Place) -> u64
     4 * (doors.number() as u64) + (gears.number() as u64)
 }
 
+// What the table tells at a number, as an entry holds it.
+fn told(n: usize) -> u64
+    ensures { λ r. ⌜ r ≡ ruledAt n ⌝ }
+{
+    let asked = Asked::numbered(n);
+    place_number(asked.next())
+}
+
 // What the entry of a number adds to the table's number.
 fn weighed(n: usize) -> u64
     requires { ⌜ n < entries ⌝ }
     ensures { λ r. ⌜ r ≡ weighedAt n ⌝ }
 {
-    let asked = Asked::numbered(n);
-    (n as u64 + 1) * place_number(asked.next())
+    (n as u64 + 1) * told(n)
 }
 
 // The entry of a number.
@@ -275,5 +269,5 @@ fn entry(n: usize) -> u8
     ensures { λ r. ⌜ r ≡ entryOf table n ⌝ }
 {
     let all = all_entries();
-    all[n / 8][n % 8]
+    all[n / 16][n % 16]
 }

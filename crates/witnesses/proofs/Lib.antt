@@ -1,2 +1,4 @@
 pub mod CauseRuns
 pub mod Printed
+pub mod Bouncing
+pub mod Standing

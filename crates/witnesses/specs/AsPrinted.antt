@@ -17,9 +17,9 @@ use Rattle.sequence.specs.Moves.{place, atAim, nextGears, doorsHome, moveOf}
 use Rattle.orders.specs.Timing.{isClosing}
 use Rattle.controller.specs.declared.Core.{Core}
 use Rattle.controller.specs.declared.State.{State}
-use Rattle.controller.specs.Votes.{handle, sensor, sightOf, seenOf, aimed}
+use Rattle.controller.specs.Votes.{handle, sensor, sightOf, seenOf}
 use Rattle.controller.specs.Start.{freshOf}
-use Rattle.controller.specs.Stages.{anomaly, agesStage, voteStage, monitorsStage, ordersStage}
+use Rattle.controller.specs.Stages.{anomaly, agesStage, voteStage, monitorsStage, inForce, ordersStage}
 use Rattle.controller.specs.Steps.{refusalOf}
 use Rattle.controller.specs.Shows.{doorsOf, gearsOf, red}
 use Rattle.controller.specs.Samples.{sees, Row, after}
@@ -40,7 +40,7 @@ unfoldable pub printedMoveOf : Aim → Place → Seen → Place
 printedMoveOf ToRetracted p seen = moveOf ToRetracted p seen
 printedMoveOf ToExtended p seen = cond (atAim ToExtended (p .gears)) (doorsHome p seen) (printedOutgoing (p .doors) (p .gears) seen)
 
--- ---- A step with that move; all else is document 01's
+-- ---- A step with that move; all else is document 01's with the requests, the aim in force (request K7) too
 
 -- The sequence's stage over the core, and over the state.
 unfoldable pub printedSequence : Aim → Seen → Core → Core
@@ -57,7 +57,7 @@ printedStage s =
     record {
       stamp = s .stamp;
       voters = s .voters;
-      core = printedSequence (aimed (s .voters)) (seenOf (sightOf (s .voters))) (s .core);
+      core = printedSequence (inForce (s .voters) (s .core)) (seenOf (sightOf (s .voters))) (s .core);
     }
 
 -- An accepted step, and a step.

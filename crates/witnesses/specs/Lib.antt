@@ -1,2 +1,4 @@
 pub mod CauseRuns
 pub mod AsPrinted
+pub mod Bouncing
+pub mod Standing

@@ -13,7 +13,7 @@ use peer::page::check;
 use peer::rules::Rules;
 use peer::trace::replay_bytes;
 use peer::vectors::session_s;
-use peer::wall::{check_csv, ENTRIES, PLACES};
+use peer::wall::{check_csv, shown_of_ground, ENTRIES, IN_AIR};
 use std::collections::HashMap;
 use std::io::{Read, Write};
 use std::path::{Path, PathBuf};
@@ -597,7 +597,11 @@ fn show(programs: &Programs, tallies: &Tallies) {
         println!("sheet        left out");
     }
     match programs.wall {
-        Some(_) => println!("wall: csv {ENTRIES:9} rows equal, page: {PLACES} places agree, bad use told"),
+        Some(_) => {
+            let ground = shown_of_ground(&Rules::default()).len();
+            let places = format!("{IN_AIR} places and {ground} of the ground agree");
+            println!("wall: csv {ENTRIES:9} rows equal, page: {places}, bad use told");
+        }
         None => println!("wall         left out"),
     }
     if programs.handover.is_none() {

@@ -1,9 +1,9 @@
-//! `wall` of request K4: `csv` and `page`; `check CSV PAGE` holds what the other side wrote to the peer's own;
+//! `wall` of requests K4 and K7: `csv` and `page`; `check CSV PAGE` holds what the other side wrote to the peer's own;
 //! `--fault NAME` before the word plants a fault, `--list-faults` lists them.
 use peer::cli::planted;
 use peer::page::check;
 use peer::rules::Rules;
-use peer::wall::{all_faults, check_csv, csv, page};
+use peer::wall::{all_faults, check_csv, csv, page, shown_of_ground, ENTRIES, IN_AIR};
 use std::ffi::OsString;
 use std::io::{stdout, Write};
 use std::process::ExitCode;
@@ -27,7 +27,8 @@ fn held_to(rules: &Rules, paths: [&OsString; 2]) -> ExitCode {
     if of_csv.is_some() || !of_page.is_empty() {
         return ExitCode::FAILURE;
     }
-    println!("CSV equal, 512 rows; page agrees, 32 places");
+    let ground = shown_of_ground(rules).len();
+    println!("CSV equal, {ENTRIES} rows; page agrees, {IN_AIR} places and {ground} of the ground");
     ExitCode::SUCCESS
 }
 

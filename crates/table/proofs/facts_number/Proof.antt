@@ -1,25 +1,11 @@
 -- `table::facts_number` meets its contract: each fact by its weight.
 -- Assumes nothing.
 use native.Mathlib.Omega.{arith}
-use mathlib.Core.Bool.{Bool, true, false}
-use mathlib.Core.Path.{_≡_, refl}
-use mir.Val.{boolByte}
-use Prim.Native.Nat.{_≤_}
-use lib.Dec.{lit≤}
-use Rattle.common.specs.Bits.{bit}
 use Rattle.table.specs.Table.{factsNumber}
+use Rattle.table.proofs.Entries.{to-1, as-bit}
 use borrow.Author.Needs.{needs}
 use Rattle.table.proofs.facts_number.Statement.{statement}
 use Rattle.table.proofs.facts_number.Tie as tie
-
--- A fact as the machine holds it.
-to-1 : (b : Bool) → boolByte b ≤ 1
-to-1 true = lit≤ tt
-to-1 false = lit≤ tt
-
-as-bit : (b : Bool) → boolByte b ≡ bit b
-as-bit true = refl
-as-bit false = refl
 
 cast-result : tie.Need-cast-result
 cast-result c = search needs

@@ -1,6 +1,6 @@
 -- `table::table_number` meets its contract: after n turns the first n entries are added up.
 -- Assumes nothing.
-use Prim.Native.Nat.{ℕ, _-_, _*_, _≤_}
+use Prim.Native.Nat.{_-_, _*_, _≤_}
 use native.Mathlib.Omega.{arith}
 use mathlib.Core.Path.{_≡_, sym, ap, _∙_}
 use Rattle.table.specs.Table.{entries}
@@ -10,7 +10,7 @@ use Rattle.table.proofs.table_number.Statement.{statement}
 use Rattle.table.proofs.table_number.Tie as tie
 
 abbrev Inv-loop : tie.InvT-loop
-Inv-loop sum₀ n₀ sum n = (n ≤ entries) × (sum ≡ sumOf n) × (sum ≤ 7680 * n)
+Inv-loop sum₀ n₀ sum n = (n ≤ entries) × (sum ≡ sumOf n) × (sum ≤ 15360 * n)
 
 abbrev μ-loop : tie.MeasureT-loop
 μ-loop sum₀ n₀ sum n = entries - n

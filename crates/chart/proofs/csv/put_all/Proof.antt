@@ -17,10 +17,10 @@ use Rattle.chart.proofs.csv.put_all.Tie as tie
 
 abbrev Inv-loop : tie.InvT-loop
 Inv-loop text₀ at next₀ n₀ text next n =
-    (n ≤ 512) × (length text ≡ length text₀) × PutIfRoom text₀ next₀ (flatten (givenFrom csvRow 0 n)) text next
+    (n ≤ 1024) × (length text ≡ length text₀) × PutIfRoom text₀ next₀ (flatten (givenFrom csvRow 0 n)) text next
 
 abbrev μ-loop : tie.MeasureT-loop
-μ-loop text₀ at next₀ n₀ text next n = 512 - n
+μ-loop text₀ at next₀ n₀ text next n = 1024 - n
 
 loop-holds : tie.Need-loop-holds Inv-loop μ-loop
 unfolding givenFrom flatten
@@ -36,7 +36,7 @@ returns : tie.Need-returns Inv-loop μ-loop
 unfolding joinedByCommas csvHeader csvText
 returns c =
     let l = c .before .loop in
-    let all : l .n ≡ 512 = omega arith in
+    let all : l .n ≡ 1024 = omega arith in
     and (put (c .before .before .before .before .put .ensures)) (same (ap (λ (k : ℕ). flatten (givenFrom csvRow 0 k)) all) (l .inv .2))
 
 pub put-all-spec : {M : Type 1} → statement M

@@ -9,7 +9,7 @@ returns : tie.Need-returns
 unfolding decides
 returns c =
     let kept =
-    rw (c .before .before .before .before .before .moved .ensures, c .before .before .before .before .before .before .alone .ensures, c .before .before .before .moved2 .ensures, c .before .before .before .before .alone2 .ensures) at (c .before .before .compared .ensures)
+    rw (c .before .before .before .before .next-with .ensures, c .before .before .before .next-with2 .ensures) at (c .before .before .compared .ensures)
     in
     rw (← kept, c .if1 .taken)
 
@@ -17,9 +17,9 @@ returns-2 : tie.Need-returns-2
 unfolding decides
 returns-2 c =
     let kept =
-    rw (c .before .before .before .before .before .moved .ensures, c .before .before .before .before .before .before .alone .ensures, c .before .before .before .moved2 .ensures, c .before .before .before .before .alone2 .ensures) at (c .before .before .compared .ensures)
+    rw (c .before .before .before .before .next-with .ensures, c .before .before .before .next-with2 .ensures) at (c .before .before .compared .ensures)
     in
     rw (← kept, c .if1 .left)
 
 pub first-of-spec : {M : Type 1} → statement M
-first-of-spec = tie.close (tie.spec (λ c κs. search needs) (λ c κs. search needs) (λ c κs. search needs) (λ c κs. search needs) (λ c κs. search needs) returns returns-2)
+first-of-spec = tie.close (tie.spec (λ c κs. search needs) (λ c κs. search needs) (λ c κs. search needs) returns returns-2)

@@ -14,7 +14,7 @@ use Rattle.chart.proofs.headings.put_row.Statement.{statement}
 use Rattle.chart.proofs.headings.put_row.Tie as tie
 
 text : (k down : ℕ) (a : Asked) → down ≡ top k → a ≡ askedAt (16 * k)
-    → headingBegin kindClass 120 (down + 160) ++ rowPiece ++ headingBegin headClass 120 (down + 225) ++ doorsWord (a .place .doors) ++ endOfTextPiece
+    → headingBegin kindClass 120 (down + 135) ++ rowPiece ++ headingBegin headClass 120 (down + 200) ++ doorsWord (a .place .doors) ++ endOfTextPiece
     ≡ rowText k
 unfolding rowText
 text k down a f e = rw (f, e)

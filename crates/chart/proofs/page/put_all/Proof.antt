@@ -1,4 +1,4 @@
--- `chart::page::put_all` meets its contract: the head, the headings, the places, the table's number, and the notes.
+-- `chart::page::put_all` meets its contract: the head, the places in the air and on ground, the table's number, and the notes.
 -- Assumes nothing.
 use Rattle.chart.specs.Parts.{parts}
 use Rattle.chart.specs.Page.{lines, headLines, tailLines, tableText, pageText}
@@ -14,14 +14,13 @@ returns c =
     let ended = noted .before .before .before .before .before in
     let number = ended .before .before .before .before in
     let opened = number .before .before .before .before .before in
-    let placed = opened .before .before .before .before in
-    let down = placed .before .before .before .before in
-    let up = down .before .before .before .before in
-    let headed = up .before .before .before .before in
+    let grounded = opened .before .before .before .before in
+    let placed = grounded .before .before .before .before in
+    let headed = placed .before .before .before .before in
     let sum = rw (number .before .table-number .ensures) at (put (number .put-number .ensures)) in
     let table = and (and (opened .put-part .ensures) sum) (ended .put-part2 .ensures) in
-    and (and (and (and (and (put (headed .put .ensures)) (up .put-headings .ensures)) (down .put-headings2 .ensures)) (placed .put-places .ensures)) table)
+    and (and (and (and (put (headed .put .ensures)) (placed .put-air .ensures)) (grounded .put-ground .ensures)) table)
     (put (noted .put2 .ensures))
 
 pub put-all-spec : {M : Type 1} → statement M
-put-all-spec = tie.close (tie.spec (λ c. search needs) (λ c κs. search needs) (λ c κs. search needs) (λ c κs. search needs) (λ c κs. search needs) (λ c κs. search needs) (λ c κs. search needs) (λ c κs. search needs) (λ c κs. search needs) (λ c. search needs) (λ c κs. search needs) (λ c. search needs) returns)
+put-all-spec = tie.close (tie.spec (λ c. search needs) (λ c κs. search needs) (λ c κs. search needs) (λ c κs. search needs) (λ c κs. search needs) (λ c κs. search needs) (λ c κs. search needs) (λ c κs. search needs) (λ c. search needs) (λ c κs. search needs) (λ c. search needs) returns)

@@ -14,7 +14,7 @@ returns c =
     let told = ended .before .before .before .before in
     let begun = told .before .before .before .before .before .before in
     let test = begun .before .before in
-    let next = rw (told .before .moved .ensures, told .before .before .before .alone .ensures) at (told .put-next .ensures) in
+    let next = rw (told .before .before .next-with .ensures) at (told .put-next .ensures) in
     rw (← test .before .is-named .ensures, test .if1 .taken)
     (and (and (begun .put-part .ensures) next) (ended .put-part2 .ensures))
 
@@ -22,4 +22,4 @@ returns-2 : tie.Need-returns-2
 returns-2 c = rw (← c .before .is-named .ensures, c .if1 .left) (nothing _ _)
 
 pub put-else-spec : {M : Type 1} → statement M
-put-else-spec = tie.close (tie.spec (λ c κs. search needs) (λ c κs. search needs) (λ c κs. search needs) (λ c κs. search needs) (λ c κs. search needs) (λ c κs. search needs) (λ c. search needs) returns returns-2)
+put-else-spec = tie.close (tie.spec (λ c κs. search needs) (λ c κs. search needs) (λ c κs. search needs) (λ c κs. search needs) (λ c κs. search needs) (λ c. search needs) returns returns-2)

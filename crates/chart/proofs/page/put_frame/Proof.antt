@@ -13,16 +13,14 @@ unfolding frameText parts
 returns c =
     let ended = c .before .before in
     let down = ended .before .before .before .before in
-    let spaced = down .before .before .before .before .before in
+    let spaced = down .before .before .before .before in
     let across = spaced .before .before .before .before in
-    let moved = across .before .before .before .before .before in
+    let moved = across .before .before .before .before in
     let class = moved .before .before .before .before in
     let opened = class .before .before .before .before in
     let word = same (chosen (opened .before .before .before .before .args .possible) 1 2 (opened .before .before .either .ensures)) (class .put-part2 .ensures) in
-    let left = rw (across .before .left .ensures) at (put (across .put-number .ensures)) in
-    let top = rw (down .before .top .ensures) at (put (down .put-number2 .ensures)) in
-    and (and (and (and (and (and (opened .put-part .ensures) word) (moved .put-part3 .ensures)) left) (spaced .put-part4 .ensures)) top)
+    and (and (and (and (and (and (opened .put-part .ensures) word) (moved .put-part3 .ensures)) (put (across .put-number .ensures))) (spaced .put-part4 .ensures)) (put (down .put-number2 .ensures)))
     (ended .put-part5 .ensures)
 
 pub put-frame-spec : {M : Type 1} → statement M
-put-frame-spec = tie.close (tie.spec (λ c κs. search needs) (λ c κs. search needs) (λ c κs. search needs) (λ c κs. search needs) (λ c κs. search needs) (λ c κs. search needs) (λ c κs. search needs) (λ c κs. search needs) (λ c κs. search needs) (λ c κs. search needs) (λ c. search needs) returns)
+put-frame-spec = tie.close (tie.spec (λ c κs. search needs) (λ c κs. search needs) (λ c κs. search needs) (λ c κs. search needs) (λ c κs. search needs) (λ c κs. search needs) (λ c κs. search needs) (λ c κs. search needs) (λ c. search needs) returns)

@@ -11,9 +11,6 @@ use borrow.Author.Needs.{needs}
 use Rattle.commands.proofs.walls.csv.Statement.{statement}
 use Rattle.commands.proofs.walls.csv.Tie as tie
 
-large-buffer-requires : tie.Need-large-buffer-requires
-large-buffer-requires c κs = search needs
-
 slice-aggregate-put-table : tie.Need-slice-aggregate-put-table
 slice-aggregate-put-table c = search needs
 
@@ -32,13 +29,13 @@ put-requires c κs = search needs
 returns : tie.Need-returns
 returns c =
     let all = c .before .before .before .before in
-    ap (λ (x : ℕ × List ℕ). x .0) (all .put-table .ensures) ∙ all-put _ csvText (omega (arith, all .before .before .large-buffer .ensures, csv-length))
+    ap (λ (x : ℕ × List ℕ). x .0) (all .put-table .ensures) ∙ all-put _ csvText (omega (arith, all .before .before .room-for-csv .ensures, csv-length))
 
 pub csv-spec : {M : Type 1} → statement M
 csv-spec =
     tie.close
     (tie.spec
-    large-buffer-requires
+    (λ c κs. search needs)
     slice-aggregate-put-table
     put-table-requires
     slice-aggregate-put

@@ -5,18 +5,14 @@ use borrow.Author.Needs.{needs}
 use Rattle.controller.proofs.State.sequence.Statement.{statement}
 use Rattle.controller.proofs.State.sequence.Tie as tie
 
-seen-requires : tie.Need-seen-requires
-seen-requires c κs = search needs
-
-aim-requires : tie.Need-aim-requires
-aim-requires c κs = search needs
-
-sequence-requires : tie.Need-sequence-requires
-sequence-requires c κs = search needs
-
 returns : tie.Need-returns
 unfolding sequenceStage
-returns c = simp (c .sequence .ensures, c .before .aim .ensures, c .before .before .seen .ensures)
+returns c =
+    let seen = c .before in
+    let aim = seen .before in
+    simp (c .sequence .ensures, seen .seen .ensures, aim .aim .ensures, aim .before .on-ground .ensures)
 
 pub sequence-spec : {M : Type 1} → statement M
-sequence-spec = tie.close (tie.spec seen-requires aim-requires sequence-requires returns)
+sequence-spec =
+    tie.close
+    (tie.spec (λ c κs. search needs) (λ c κs. search needs) (λ c κs. search needs) (λ c κs. search needs) returns)
