@@ -3,6 +3,8 @@
 // dump), images: (that traces leave), onward: (rows from an image), words: (of images), forms: (of images) and table: (on the wall). A case is the name of
 // its files without their endings. A line is written for each case that differs, or whose rows or values have a refusal that
 // is not stored or lack one that is, and for each group. Behind all groups every word of the programs is run.
+#![tactic(auto)]
+
 mod conversions;
 mod files;
 mod images;
@@ -15,7 +17,7 @@ use libc::STDOUT_FILENO;
 
 // A group under way: the first letter of its word, by which it is run, the argument that has the word, and how many cases were as
 // stored.
-#[derive(Drop)]
+#[derive(Clone, Copy)]
 struct Group {
     letter: u8,
     head: usize,

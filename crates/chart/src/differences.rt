@@ -7,7 +7,7 @@ use sequence::{Place, Seen};
 use table::Asked;
 
 // The fact that makes a difference at a place.
-#[derive(Drop)]
+#[derive(Clone, Copy)]
 pub enum Deciding {
     Nothing,
     AllOpen,
@@ -17,7 +17,7 @@ pub enum Deciding {
 }
 
 // Which of doors and gears stay as they were.
-#[derive(Drop)]
+#[derive(Clone, Copy)]
 pub struct Kept {
     pub doors: bool,
     pub gears: bool,

@@ -8,14 +8,14 @@ use crate::{messages, saving};
 use image::SIZE;
 
 // The form that is asked for.
-#[derive(Drop)]
+#[derive(Clone, Copy)]
 pub enum Form {
     New,
     Old,
 }
 
 // A conversion: whether the image stands at its path, and what was loaded.
-#[derive(Drop)]
+#[derive(Clone, Copy)]
 pub struct Converted {
     pub saved: bool,
     pub loaded: Loaded,

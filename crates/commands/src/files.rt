@@ -6,14 +6,14 @@ ghost use Rattle.commands.specs.Messages.{PutWithin};
 use crate::saving::Reason;
 
 // What was read: whether all went well, and how many bytes.
-#[derive(Drop)]
+#[derive(Clone, Copy)]
 pub(crate) struct Got {
     pub(crate) well: bool,
     pub(crate) n: usize,
 }
 
 // What one call of read came to: the same, and whether there may be more.
-#[derive(Drop)]
+#[derive(Clone, Copy)]
 struct Part {
     more: bool,
     well: bool,
@@ -21,7 +21,7 @@ struct Part {
 }
 
 // Whether a file was written, synced and closed; where not, the system's error.
-#[derive(Drop)]
+#[derive(Clone, Copy)]
 pub(crate) struct Kept {
     pub(crate) well: bool,
     pub(crate) error: i32,

@@ -15,14 +15,14 @@ use running::traces::WAVES;
 use running::{Ran, Task, Work};
 
 // A run of saving: whether the image stands at its path, and the run of the trace.
-#[derive(Drop)]
+#[derive(Clone, Copy)]
 pub struct Saved {
     pub saved: bool,
     pub ran: Ran,
 }
 
 // Whether all went well, and how many bytes were put out.
-#[derive(Drop)]
+#[derive(Clone, Copy)]
 pub struct Shown {
     pub well: bool,
     pub put: usize,

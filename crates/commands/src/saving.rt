@@ -16,7 +16,7 @@ pub(crate) const ROOM: usize = image::SIZE + 1;
 
 // An image that was asked for by its name: whether it was taken, whether every item of it is 0, the controller that it is of, and how many
 // bytes of the buffer were read of it.
-#[derive(Drop)]
+#[derive(Clone, Copy)]
 pub struct Loaded {
     pub taken: bool,
     pub blank: bool,
@@ -25,7 +25,7 @@ pub struct Loaded {
 }
 
 // Why the system does not do what it is asked (specs/Messages.antt).
-#[derive(Drop)]
+#[derive(Clone, Copy)]
 pub enum Reason {
     Missing,
     Forbidden,

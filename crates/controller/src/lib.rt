@@ -1,6 +1,8 @@
 // The controller: its state by value, one step over a sample of any length and any bytes, and ways to read the answer.
 // The rules are specs/: Start.antt (a fresh start), Votes.antt (the sample and what it says), Stages.antt (one accepted step, in
 // its order), Steps.antt (refusals 1 to 4 and the step), Lamps.antt (the lights and the fields of an output row).
+#![tactic(auto)]
+
 ghost use Rattle.std.specs.Prelude.{◌≡◌};
 ghost use Rattle.controller.specs.Start.{fresh_orders, fresh_voters, fresh_of, started_at};
 ghost use Rattle.controller.specs.Steps.{some_over_one, step_of};
@@ -17,7 +19,7 @@ use voter::Voter;
 const LIMIT: u32 = 100;
 
 // What a step keeps beside the stamp and the sensors: the orders, the handle's age, doors and gears, the cause (0 for none).
-#[derive(Drop)]
+#[derive(Clone, Copy)]
 pub struct Core {
     pub orders: Orders,
     pub since: u32,
@@ -26,7 +28,7 @@ pub struct Core {
 }
 
 // The controller's state: the last accepted stamp, the eighteen sensors in the sample's order, and the core.
-#[derive(Drop)]
+#[derive(Clone, Copy)]
 pub struct State {
     pub stamp: u32,
     pub voters: [Voter; 18],
@@ -34,14 +36,14 @@ pub struct State {
 }
 
 // What a step answers: 0 or its refusal's number, and the state after it.
-#[derive(Drop)]
+#[derive(Clone, Copy)]
 pub struct Answer {
     pub refusal: u8,
     pub state: State,
 }
 
 // The three lights.
-#[derive(Drop)]
+#[derive(Clone, Copy)]
 pub struct Lights {
     pub green: bool,
     pub orange: bool,
@@ -49,7 +51,7 @@ pub struct Lights {
 }
 
 // What an output row shows of a state, in its order.
-#[derive(Drop)]
+#[derive(Clone, Copy)]
 pub struct Shown {
     pub general: bool,
     pub closes: bool,

@@ -2,6 +2,8 @@
 // out. The rule is
 // specs/Converting.antt; what it promises is proofs/Exact.antt (which number is given, exactly) and proofs/Laws.antt (there and back, and that
 // both forms load as the same controller).
+#![tactic(auto)]
+
 ghost use Rattle.std.specs.Prelude.{◌≡◌};
 ghost use Rattle.common.specs.Lists.{some};
 ghost use Rattle.voter.specs.Counts.{count_runs};

@@ -1,6 +1,8 @@
 // One cylinder of the simulated hydraulics (request K8): position and rate as 32-bit floats, each equal to a whole number over 16384. A float is
 // taken apart to that whole number, the move is made there, and put back, so that nothing is ever rounded.
 // The rule is specs/: Fractions.antt (which floats are whole 16384ths), Moves.antt (one move, refusal 13).
+#![tactic(auto)]
+
 ghost use Rattle.std.specs.Prelude.{◌≡◌, ◌+◌, ◌-◌, ◌*◌, min, not, T, ◌==◌, is_nan, to_bits};
 ghost use Rattle.std.specs.Float.{binary32};
 ghost use Rattle.cylinder.specs.Fractions.{stroke, fraction, within, parts_from};
@@ -17,14 +19,14 @@ const SCALE: f32 = 16384.0;
 const FASTEST: u32 = 16;
 
 // A cylinder: where it stands, 0 in to 1 out, and the rate it was last told to move with, in strokes a ms; 0 while it holds or is stuck.
-#[derive(Drop)]
+#[derive(Clone, Copy)]
 pub struct Cylinder {
     pub position: f32,
     pub rate: f32,
 }
 
 // What a cylinder is told.
-#[derive(Drop)]
+#[derive(Clone, Copy)]
 pub enum Drive {
     // To move out, or in, at a rate.
     Out(f32),
@@ -36,14 +38,14 @@ pub enum Drive {
 }
 
 // A cylinder after a move, or refusal 13.
-#[derive(Drop)]
+#[derive(Clone, Copy)]
 pub enum Moved {
     To(Cylinder),
     Refused,
 }
 
 // How many whole 16384ths a float is.
-#[derive(Drop)]
+#[derive(Clone, Copy)]
 pub enum Parts {
     Of(u32),
     NoParts,

@@ -1,5 +1,7 @@
 // The program `desk`: what an instructor has beside the rig, by the words that it is given (`commands/src/uses.rt` lists them). `bin/waves`,
 // `bin/sheet`, `bin/handover` and `bin/wall` give it the first one.
+#![tactic(auto)]
+
 use libc::{STDIN_FILENO, STDOUT_FILENO};
 
 fn main() {

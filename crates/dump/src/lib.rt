@@ -2,6 +2,8 @@
 // The rule is specs/Dumps.antt, from a list of times and values to all bytes of the dump. It is written by parts into lent
 // buffers, so that a long lesson needs no more memory than a short one: specs/Writes.antt says what each call gives, and
 // proofs/Law.antt that what is written in all is the dump of the whole list.
+#![tactic(auto)]
+
 ghost use Rattle.std.specs.Prelude.{◌≡◌, ◌+◌, ◌*◌, ◌≤◌, ◌<◌, cond, ltb, length, take};
 ghost use Rattle.texts.specs.Puts.{Put, put_of};
 ghost use Rattle.names.specs.Words.{entry};
@@ -45,14 +47,14 @@ pub const HEAD_LENGTH: usize = OPENING_LENGTH + 3 * WIRES + CLOSING_LENGTH;
 const MOMENT_ROOM: usize = 22 + 3 * WIRES;
 
 // A dump under way: the time and the values of the last moment.
-#[derive(Drop)]
+#[derive(Clone, Copy)]
 pub struct Dump {
     pub time: u64,
     pub values: [bool; WIRES],
 }
 
 // What the writer answers: 0 or its refusal, the dump after it, and how many bytes were written.
-#[derive(Drop)]
+#[derive(Clone, Copy)]
 pub struct Wrote {
     pub refusal: u8,
     pub dump: Dump,

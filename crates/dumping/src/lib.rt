@@ -3,6 +3,8 @@
 // by parts, one row a call, by the crate `reading`: here is only what is written of a row (specs/Parts.antt). proofs/Law.antt says that
 // however the input is cut, what is written in all is the dump of the whole. `fill` takes in a whole part, as a program has it from one read,
 // into one output buffer, for one write.
+#![tactic(auto)]
+
 ghost use Rattle.std.specs.Prelude.{◌≡◌, ◌-◌, ◌≤◌, not, ◌&&◌, length, nat_le, nat_lt};
 ghost use Rattle.controller.specs.Stages.{elapsed_of};
 ghost use Rattle.reading.specs.Rows.{has_ended};
@@ -20,21 +22,21 @@ use reading::{Came, Next, Phase, Run};
 pub const ROOM: usize = dump::HEAD_LENGTH;
 
 // A run under way, and the dump so far.
-#[derive(Drop)]
+#[derive(Clone, Copy)]
 pub struct Waves {
     pub run: Run,
     pub dump: Dump,
 }
 
 // What is written of a row: the dump after it, and how many bytes.
-#[derive(Drop)]
+#[derive(Clone, Copy)]
 struct Told {
     dump: Dump,
     written: usize,
 }
 
 // What a call gives: the run after it, how much of the part is used, how many bytes were written, and 0 or refusal 8.
-#[derive(Drop)]
+#[derive(Clone, Copy)]
 pub struct Took {
     pub waves: Waves,
     pub used: usize,

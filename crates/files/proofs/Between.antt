@@ -53,10 +53,10 @@ module _ (first : Told) (accepts : Accepts first) where
 
   first_taken : (row : OwnRow first accepts.0.0 0) → is_taken first.before (row.stamp, row.sample) ≡ true
   unfolding is_taken
-  first_taken row = eq-eqb _ 0 (sym (ap (λ (a : Answer). a.refusal) (own_step row.own_val accepts.1)))
+  first_taken row = eq-eqb _ 0 (sym (ap (λ (a : Answer). a.refusal) (own_step row.own accepts.1)))
 
   first_next : (row : OwnRow first accepts.0.0 0) → first.after ≡ next first.before (row.stamp, row.sample)
-  first_next row = ap (λ (a : Answer). a.state) (own_step row.own_val accepts.1)
+  first_next row = ap (λ (a : Answer). a.state) (own_step row.own accepts.1)
 
   -- What holds of every run of accepted samples holds of it and of the rows behind it.
   said : (Says : ℕ → Bool → Type 0) → OfEveryRun Says

@@ -55,7 +55,7 @@ module _ (Between : State → State → Type 0)
 
   by_came : (t : Told) (came : Came) → AnsweredBy t came → Reached t.before → Between t.before t.after
   by_came t Nothing e reached = rw e (stays t.before reached)
-  by_came t (Answered label code) row reached = answer_between row.own_val reached
+  by_came t (Answered label code) row reached = answer_between row.own reached
   by_came t (Refused at refusal) e reached = rw e (stays t.before reached)
 
   pub row_between : (t : Told) → AnsweredRight t → Reached t.before → Between t.before t.after

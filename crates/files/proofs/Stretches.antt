@@ -45,7 +45,7 @@ step_turn : (t : Told) (label code : ℕ) → OwnRow t label code → ¬ (label 
 unfolding is_taken
 step_turn t label code row other =
     let r : Row = (row.stamp, row.sample) in
-    let answer = own_step row.own_val other in
+    let answer = own_step row.own other in
     let same : t.after ≡ next t.before r = ap (λ (a : Answer). a.state) answer in
     let refusal = (step_of t.before row.stamp row.sample).refusal in
     either (eqb refusal 0)

@@ -1,6 +1,8 @@
 // The two forms of an image as bytes (request K6): the old one has voter and held value of each sensor, and the new one its odd channel and
 // count behind them. The rule is specs/Forms.antt; there is no controller in it, and nothing is refused here. That there and back gives the
 // same bytes is proofs/ThereAndBack.antt.
+#![tactic(auto)]
+
 ghost use Rattle.std.specs.Prelude.{◌++◌, ◌≡◌, length, drop};
 ghost use Rattle.texts.specs.Puts.{PutIfRoom, put_of};
 ghost use Rattle.forms.specs.Forms.{

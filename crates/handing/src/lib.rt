@@ -1,6 +1,8 @@
 // A whole run of saving (request K3): the trace of a lesson in, the image of its last state out, by which the lesson goes on at
 // another laptop. The rule is specs/Handing.antt, from all bytes of the trace to the bytes that are written. The trace is taken in by
 // parts, as for `replay` (the crate `lesson`); proofs/Law.antt says that however it is cut, the image of the whole is written.
+#![tactic(auto)]
+
 ghost use Rattle.std.specs.Prelude.{◌≡◌};
 ghost use Rattle.image.specs.Images.{save_of};
 ghost use Rattle.reading.specs.Rows.{line_of};
@@ -12,7 +14,7 @@ use reading::{Phase, Run};
 use trace::Due;
 
 // What saving gives: 0 or refusal 8, and how many bytes were written.
-#[derive(Drop)]
+#[derive(Clone, Copy)]
 pub struct Saved {
     pub refusal: u8,
     pub written: usize,

@@ -3,6 +3,8 @@
 // The rule is specs/: Xdr.antt (an item), Items.antt (the items of a controller, their ranges, and the controller that items are of),
 // Rules.antt (what an image must keep to), Images.antt (saving, loading and the refusals), Faults.antt (what is wrong with an image that
 // is refused). specs/Conditions.antt says condition by condition which images are taken, and proofs/Exact.antt that it is so exactly.
+#![tactic(auto)]
+
 ghost use Rattle.std.specs.Prelude.{◌≡◌, length};
 ghost use Rattle.forms.specs.Forms.{old_size};
 ghost use Rattle.image.specs.Xdr.{items_in};
@@ -33,7 +35,7 @@ const SENSORS: usize = forms::SENSORS;
 const CORE: usize = 14;
 
 // What is wrong with an image.
-#[derive(Drop)]
+#[derive(Clone, Copy)]
 pub enum Fault {
     // Nothing: it is taken.
     Nothing,

@@ -2,6 +2,8 @@
 // sensors are read from the new positions, and the controller's own step takes them.
 // The rule is specs/: Drives.antt (what each cylinder is told, refusal 13), Sensors.antt (the 54 bytes), Rigs.antt (start and step), Drawn.antt
 // (the floats for the drawing engine).
+#![tactic(auto)]
+
 ghost use Rattle.std.specs.Prelude.{◌≡◌};
 ghost use Rattle.joined.specs.Rigs.{start_of, elapsed_at, since_move, read_at, answered_by, step_of};
 ghost use Rattle.joined.specs.Drawn.{drawn_of};
@@ -15,7 +17,7 @@ use cylinder::Cylinder;
 use orders::OLDEST;
 
 // What a cylinder is given in a step: the rate at which the orders move it, or the position at which it is stuck.
-#[derive(Drop)]
+#[derive(Clone, Copy)]
 pub enum Given {
     Rate(f32),
     StuckAt(f32),
@@ -23,7 +25,7 @@ pub enum Given {
 
 // The rig: its cylinders (doors front, left, right, gears front, left, right), the handle, for how many ms it has not moved, the sensors as the
 // controller saw them last, and the controller.
-#[derive(Drop)]
+#[derive(Clone, Copy)]
 pub struct Rig {
     pub cylinders: [Cylinder; 6],
     pub down: bool,
@@ -33,7 +35,7 @@ pub struct Rig {
 }
 
 // What a step answers: 0 or its refusal's number, and the rig after it.
-#[derive(Drop)]
+#[derive(Clone, Copy)]
 pub struct Stepped {
     pub refusal: u8,
     pub rig: Rig,

@@ -3,6 +3,8 @@
 // `reading`: here is only what is written of a row. proofs/Law.antt says that however the input is cut, what is written in all is the output
 // of the whole. `fill` takes in a whole part, as a program has it from one read, into one output buffer, for one write. Request K3: a run may
 // also go on from a controller that was handed over, and the controller that it leaves may be saved.
+#![tactic(auto)]
+
 ghost use Rattle.std.specs.Prelude.{◌≡◌, ◌-◌, ◌≤◌, ◌&&◌, not, leb, ltb, length};
 ghost use Rattle.reading.specs.Rows.{has_ended};
 ghost use Rattle.lesson.specs.Replay.{text_by};
@@ -16,7 +18,7 @@ use reading::{Came, Next, Run};
 pub const ROOM: usize = 64;
 
 // What a call gives: the run after it, how much of the part is used, how many bytes were written, and 0 or refusal 8.
-#[derive(Drop)]
+#[derive(Clone, Copy)]
 pub struct Took {
     pub run: Run,
     pub used: usize,

@@ -13,7 +13,7 @@ use borrow.Author.Tests.{eq-eqb, ne_eqb, eqb-false, lt-ltb, le-ltb}
 use lib.Dec.{eqb}
 use lib.ListN.{length, take, drop, get_or, set, drop_of_length-le, length-take, length-drop, length-set}
 use lib.Seq.{sets, sets-eq, take_all, take-length, length-take-le, take-add, drop_at, drop-cons, drop-drop, slice-cons}
-use Rattle.bytes.specs.Bytes.{slice, index_of, index_after}
+use Rattle.spans.specs.Bytes.{slice, index_of}
 use Rattle.common.specs.Ascii.{cr, lf}
 use Rattle.lines.specs.Cuts.{empty, lf_first, cut_from}
 use Rattle.lines.specs.declared.Taken.TheVariants.{Row, More, Over}
@@ -82,7 +82,7 @@ module _ (s line : List ℕ) (n b at : ℕ) where
 -- Of the first `m` bytes, those in front of the first CR are bytes of the row: they are stored behind those in the line.
 on_bytes : (size m : ℕ) (s line : List ℕ) (n : ℕ) → n + m ≤ length line
     → (let k = index_of cr (take m s) in cut_from size line n s ≡ cut_from size (sets line n (take k s)) (n + k) (drop k s))
-unfolding index_of index_after
+unfolding index_of
 on_bytes size zero s line n h = rw add-zero
 on_bytes size (suc m) [] line n h = rw add-zero
 on_bytes size (suc m) (b ∷ s) line n h =
@@ -138,11 +138,11 @@ pub record Searched (s : List ℕ) (from to i : ℕ) : Type 0 where
 -- One byte of the search: it is the CR, or the search goes on at the next place, `j`.
 module _ {s : List ℕ} {from to i : ℕ} (p : Searched s from to i) (h : i < to) where
   pub cr_here : get_or s i 0 ≡ cr → (i ≡ from + index_of cr (slice from to s)) × (i ≤ to)
-  unfolding slice index_of index_after
+  unfolding slice index_of
   cr_here e = (sym (p.same ∙ rw (slice-cons i to s 0 h p.within, eq-eqb (get_or s i 0) cr e, add-zero)), p.inside)
 
   pub cr_past : {j : ℕ} → suc i ≡ j → (get_or s i 0 ≡ cr → ⊥) → Searched s from to j
-  unfolding slice index_of index_after
+  unfolding slice index_of
   cr_past {j} e n =
       record {
         within = p.within;

@@ -2,8 +2,10 @@
 // The rule is in specs/: Rows.antt has the plain split of all bytes, Cuts.antt what a part of them gives.
 // However the input is cut into parts, the rows are those of the plain split: proofs/Law.antt has it for each answer,
 // proofs/Parts.antt for a whole run.
+#![tactic(auto)]
+
 ghost use Rattle.std.specs.Prelude.{◌≡◌, ◌+◌, ◌≤◌, min, ◌∷◌, length, drop};
-ghost use Rattle.bytes.specs.Bytes.{index_of, slice};
+ghost use Rattle.spans.specs.Bytes.{index_of, slice};
 ghost use Rattle.common.specs.Ascii.{cr};
 ghost use Rattle.lines.specs.Cuts.{cut_from, cut_of, last_of};
 
@@ -12,7 +14,7 @@ const CR: u8 = 13;
 const LF: u8 = 10;
 
 // What taking in a part gives.
-#[derive(Drop)]
+#[derive(Clone, Copy)]
 pub enum Taken {
     // The row is whole: the first `len` bytes of the line. It ends in front of byte `used` of the part.
     Row { used: usize, len: usize },
@@ -23,7 +25,7 @@ pub enum Taken {
 }
 
 // What the end of the input gives.
-#[derive(Drop)]
+#[derive(Clone, Copy)]
 pub enum Final {
     // No row is under way.
     Nothing,
@@ -96,7 +98,7 @@ fn next_cr(part: &[u8], from: usize, to: usize) -> usize
         }
         i += 4;
     }
-    bytes::scan::find(part, i, to, CR)
+    spans::find(part, i, to, CR)
 }
 
 // Takes in the bytes in front of the next CR, as many as are there and as the line has room for, and answers how many they
@@ -111,7 +113,7 @@ fn until_cr(part: &[u8], from: usize, line: &mut [u8], len: usize) -> usize
 {
     let most = within(part.len() - from, line.len() - len);
     let end = next_cr(part, from, from + most);
-    bytes::copy(&part[from..end], &mut line[len..])
+    spans::copy(&part[from..end], &mut line[len..])
 }
 
 // Takes in bytes where no CR is held: in each turn one byte, and those behind it up to the next CR.

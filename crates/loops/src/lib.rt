@@ -1,10 +1,12 @@
 // Where a loop from one descriptor to another stands, in numbers alone: what each read and each call for a part make of it, and whether it goes
 // on. The rule is specs/Progresses.antt. What is read and written is the caller's.
+#![tactic(auto)]
+
 ghost use Rattle.std.specs.Prelude.{◌≡◌, ◌-◌};
 ghost use Rattle.loops.specs.Progresses.{at_first, read_part, not_read, taken_in, goes_on};
 
 // How far a loop is.
-#[derive(Drop)]
+#[derive(Clone, Copy)]
 pub struct Progress {
     // So many bytes of the part are not taken in yet, and they end in front of byte `to` of the input buffer.
     pub left: usize,

@@ -1,5 +1,7 @@
 // The health monitors: the table of the thirteen causes over orders, ages and votes.
 // The rule is specs/Causes.antt (document 01, "Monitors").
+#![tactic(auto)]
+
 ghost use Rattle.std.specs.Prelude.{◌≡◌, cond, take, drop};
 ghost use Rattle.common.specs.Lowest.{lowest_or};
 ghost use Rattle.monitors.specs.Causes.{causes, cause_of};
@@ -7,7 +9,7 @@ ghost use Rattle.monitors.specs.Causes.{causes, cause_of};
 use orders::Orders;
 
 // What the three sensors of a kind say: some of them 1, all of them 1.
-#[derive(Drop)]
+#[derive(Clone, Copy)]
 pub struct Three {
     pub any: bool,
     pub all: bool,
@@ -15,7 +17,7 @@ pub struct Three {
 
 // What the votes of a step say: doors seen closed and open, gears seen extended and retracted, the circuit pressurized, the
 // switch closed, some sensor invalid.
-#[derive(Drop)]
+#[derive(Clone, Copy)]
 pub struct Sight {
     pub closed: Three,
     pub opened: Three,

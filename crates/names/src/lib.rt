@@ -1,5 +1,7 @@
 // The words and names by which the programs write what the documents name (specs/Words.antt): each stands here once, in src/tables.rt.
 // A name or word that has no room in the line is not put, and the place stays; so it is where there is none at the place asked for.
+#![tactic(auto)]
+
 ghost use Rattle.std.specs.Prelude.{◌≡◌};
 ghost use Rattle.common.specs.Ascii.{joined_by_commas};
 ghost use Rattle.texts.specs.Puts.{put_of};

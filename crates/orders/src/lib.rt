@@ -1,19 +1,21 @@
 // The five orders with their ages: how ages grow, which orders are wanted, and when they start and stop.
 // The rule is specs/Timing.antt (document 01, "Ages" and "Orders").
+#![tactic(auto)]
+
 ghost use Rattle.std.specs.Prelude.{◌≡◌};
 ghost use Rattle.orders.specs.Timing.{grown_age, grown, all_grown, on_for, off_for, switched, is_opening, is_closing, is_retracting, is_extending, wanted_of, directed, off_together, general_of, orders_of};
 
 use sequence::{Doors, Gears, Place};
 
 // One order: whether it is on, and for how many ms it has been so.
-#[derive(Drop)]
+#[derive(Clone, Copy)]
 pub struct Order {
     pub on: bool,
     pub age: u32,
 }
 
 // The five orders, in the order of the output row: general_EV, close_EV, open_EV, retract_EV, extend_EV.
-#[derive(Drop)]
+#[derive(Clone, Copy)]
 pub struct Orders {
     pub general: Order,
     pub closes: Order,
@@ -23,7 +25,7 @@ pub struct Orders {
 }
 
 // Which of the four are wanted.
-#[derive(Drop)]
+#[derive(Clone, Copy)]
 pub struct Wanted {
     pub closes: bool,
     pub opens: bool,

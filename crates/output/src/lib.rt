@@ -1,6 +1,8 @@
 // Writes the output of the program: its header, a row for each row read, and the row of a refusal that ends the run.
 // The rule is specs/Rows.antt (document 01, "The trace and its program"; refusal 8 of "Refusal numbers").
 // A text is put together in an array of its own, piece by piece, and then handed to the lent buffer if there is room for it.
+#![tactic(auto)]
+
 ghost use Rattle.std.specs.Prelude.{◌≡◌, ◌+◌, ◌≤◌, length};
 ghost use Rattle.texts.specs.Puts.{Put};
 ghost use Rattle.output.specs.Answers.{written_says};
@@ -16,7 +18,7 @@ ghost use Rattle.output.specs.Rows.{
 use controller::{Lights, Shown};
 
 // What a writer answers: the number of bytes that it wrote, or that the buffer is too short for them.
-#[derive(Drop)]
+#[derive(Clone, Copy)]
 pub enum Written {
     Bytes(usize),
     NoRoom,

@@ -1,6 +1,8 @@
 // A controller in plain words (requests K3 and K6): what an image holds, item by item, for a person to read; and the items and the rules of an
 // image by name (src/parts.rt). The rules are specs/Plain.antt and specs/Parts.antt. A text is put together in an array of its own, piece
 // by piece, and then handed to the lent line if there is room for it.
+#![tactic(auto)]
+
 ghost use Rattle.std.specs.Prelude.{◌≡◌};
 ghost use Rattle.names.specs.Words.{entry};
 ghost use Rattle.texts.specs.Puts.{put_of};

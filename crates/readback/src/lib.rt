@@ -2,6 +2,8 @@
 // The rule is specs/Bytes.antt, a table of what each byte comes to at each place of a dump, and specs/Reads.antt, what the bytes
 // of a whole dump come to and what each call gives. proofs/Written.antt says that what the writer writes is read back, and
 // proofs/Exact.antt that nothing else is; proofs/Calls.antt says the same of calls, however the dump is cut.
+#![tactic(auto)]
+
 ghost use Rattle.std.specs.Prelude.{◌≡◌, ◌<◌, length};
 ghost use Rattle.dump.specs.Wires.{wires};
 ghost use Rattle.dump.specs.Dumps.{opening_text};
@@ -42,7 +44,7 @@ ghost use Rattle.readback.specs.Reads.{
 use dump::{CLOSING_LENGTH, FIRST, OPENING_LENGTH, WIRES};
 
 // Where in a dump the reader is.
-#[derive(Drop)]
+#[derive(Clone, Copy)]
 pub enum Place {
     // So many bytes of what every dump begins with are read.
     Opening(usize),
@@ -65,7 +67,7 @@ pub enum Place {
 }
 
 // A dump that is being read: the place, the time and the values of the moment under way, and the first wire that may follow.
-#[derive(Drop)]
+#[derive(Clone, Copy)]
 pub struct Reader {
     pub place: Place,
     pub time: u64,
@@ -75,7 +77,7 @@ pub struct Reader {
 
 // What taking in a part gives: 0 or a refusal, whether a moment is complete, its time, how much of the part is used, and the
 // reader behind it. The moment's values stand in the lent buffer. At a 9 what is used are the bytes in front of the one that is refused.
-#[derive(Drop)]
+#[derive(Clone, Copy)]
 pub struct Took {
     pub refusal: u8,
     pub given: bool,

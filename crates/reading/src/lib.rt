@@ -3,6 +3,8 @@
 // says what a call gives. What is made of a row is another crate's: `lesson` writes it as a row of `replay`, and `dumping` as a moment of
 // `waves`. For all of them specs/Runs.antt says what a whole run by parts is, and proofs/ByParts.antt that however the input is cut, the run
 // comes to what the rows of the whole come to. specs/Fills.antt says what they give where a whole part goes into one output buffer.
+#![tactic(auto)]
+
 ghost use Rattle.std.specs.Prelude.{◌≡◌, ◌≤◌, false, length};
 ghost use Rattle.reading.specs.declared.Came.TheVariants.{Nothing};
 ghost use Rattle.reading.specs.Parts.{
@@ -41,7 +43,7 @@ use trace::{Due, Row};
 pub const LINE: usize = trace::LONGEST_ROW;
 
 // How far a trace has been read.
-#[derive(Drop)]
+#[derive(Clone, Copy)]
 pub enum Phase {
     // Nothing yet: the header is due.
     Header,
@@ -52,14 +54,14 @@ pub enum Phase {
 }
 
 // What was read so far: how far, and the controller as the last row left it.
-#[derive(Drop)]
+#[derive(Clone, Copy)]
 pub struct Reading {
     pub phase: Phase,
     pub state: State,
 }
 
 // What a row came to, beside what was read with it.
-#[derive(Drop)]
+#[derive(Clone, Copy)]
 pub enum Came {
     // The header, or a row after the end: there is nothing to tell.
     Nothing,
@@ -70,14 +72,14 @@ pub enum Came {
 }
 
 // What was read with a row, and what the row came to.
-#[derive(Drop)]
+#[derive(Clone, Copy)]
 pub struct Heard {
     pub reading: Reading,
     pub came: Came,
 }
 
 // A run under way: what was read, how many bytes of the line buffer are the row under way, and whether a CR is held.
-#[derive(Drop)]
+#[derive(Clone, Copy)]
 pub struct Run {
     pub reading: Reading,
     pub len: usize,
@@ -85,7 +87,7 @@ pub struct Run {
 }
 
 // What a call gives: 0 or refusal 8, the run after it, what its row came to, and how much of the part is used.
-#[derive(Drop)]
+#[derive(Clone, Copy)]
 pub struct Next {
     pub run: Run,
     pub came: Came,
@@ -94,7 +96,7 @@ pub struct Next {
 }
 
 // What a call finds in the line buffer.
-#[derive(Drop)]
+#[derive(Clone, Copy)]
 enum Found {
     // A row that is whole: so many bytes of the line.
     Whole(usize),
@@ -107,7 +109,7 @@ enum Found {
 }
 
 // The same, with what is under way behind it, and how much of the part is used.
-#[derive(Drop)]
+#[derive(Clone, Copy)]
 struct Piece {
     found: Found,
     len: usize,

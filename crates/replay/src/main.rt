@@ -1,4 +1,6 @@
 // The program `replay`: a trace on standard input, its rows on standard output (document 01, "The trace and its program").
+#![tactic(auto)]
+
 use libc::{STDIN_FILENO, STDOUT_FILENO};
 
 fn main() {

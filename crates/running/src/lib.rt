@@ -3,6 +3,8 @@
 // What is made of the input is the work (specs/Works.antt), by its task and the crates below; where the loop stands in numbers is `loops`.
 // specs/Loops.antt says what each step promises over the bytes that `read` left, and what the whole loop does; what `read` and `write` do is the
 // operating system's, and nothing can be promised of it: `read` below and `words::put` hand over to them.
+#![tactic(auto)]
+
 ghost use Rattle.std.specs.Prelude.{◌≡◌, ◌≤◌, T, length};
 ghost use Rattle.output.specs.Rows.{header_text};
 ghost use Rattle.sheets.specs.Sheets.{sheet_header};
@@ -35,7 +37,7 @@ pub mod traces;
 const PART: usize = 8192;
 
 // What a program makes of its input.
-#[derive(Drop)]
+#[derive(Clone, Copy)]
 pub enum Task {
     // The rows of a trace.
     Rows,
@@ -48,7 +50,7 @@ pub enum Task {
 }
 
 // A work under way: how far it is. (Each task looks at its own alone.)
-#[derive(Drop)]
+#[derive(Clone, Copy)]
 pub struct Work {
     pub run: Run,
     pub dump: Dump,
@@ -56,7 +58,7 @@ pub struct Work {
 }
 
 // What a call gives: the work after it, how much of the part is used, how many bytes were written, and 0 or refusal 8.
-#[derive(Drop)]
+#[derive(Clone, Copy)]
 pub struct Filled {
     pub work: Work,
     pub used: usize,
@@ -66,7 +68,7 @@ pub struct Filled {
 
 // A loop at its end: whether all was read and put out, whether the end of the input was reached, the work as it was left, and how many bytes were
 // put out (modulo 2^64).
-#[derive(Drop)]
+#[derive(Clone, Copy)]
 pub struct Ran {
     pub well: bool,
     pub end: bool,
@@ -75,7 +77,7 @@ pub struct Ran {
 }
 
 // Where the loop stands: the work, and how far the loop is with the part that was read last.
-#[derive(Drop)]
+#[derive(Clone, Copy)]
 struct At {
     work: Work,
     progress: Progress,

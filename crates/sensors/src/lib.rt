@@ -1,5 +1,7 @@
 // A sensor in an image (requests K3 and K6): its items, their ranges, the sensor that items are of, and the rules of its odd channel and count.
 // What a sensor is, and how it votes, is the voter's; the rules here are specs/Items.antt and, beside the voter, its specs/Counts.antt.
+#![tactic(auto)]
+
 ghost use Rattle.std.specs.Prelude.{◌≡◌};
 ghost use Rattle.voter.specs.Voting.{valid_channels};
 ghost use Rattle.voter.specs.Counts.{count_rules, count_runs};

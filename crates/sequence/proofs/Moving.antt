@@ -13,11 +13,16 @@ use Rattle.sequence.specs.Places.{are_open, are_moving, moving_have_open}
 -- Doors that pass the test for OPEN are OPEN.
 pub are_open_lem : (doors : Doors) → T (are_open doors) → doors ≡ Open
 are_open_lem Open h = refl
+are_open_lem Closed h = elim h [ ]
+are_open_lem Opening h = elim h [ ]
+are_open_lem Closing h = elim h [ ]
 
 means : (doors : Doors) (gears : Gears) → T (moving_have_open (place doors gears)) → T (are_moving gears) → doors ≡ Open
 unfolding moving_have_open
 means doors Extending h m = are_open_lem doors h
 means doors Retracting h m = are_open_lem doors h
+means doors Retracted h m = elim m [ ]
+means doors Extended h m = elim m [ ]
 
 if : (doors : Doors) (gears : Gears) → (T (are_moving gears) → doors ≡ Open) → T (moving_have_open (place doors gears))
 unfolding moving_have_open

@@ -1,5 +1,7 @@
 // Doors and gears, what the handle aims at and what is seen: what the rule of the sequence speaks of.
 // The rule is specs/Moves.antt (document 01, "Sequence"); it runs as a table, which is the crate `table`.
+#![tactic(auto)]
+
 ghost use Rattle.std.specs.Prelude.{◌≡◌};
 ghost use Rattle.sequence.specs.Moves.{at_aim};
 
@@ -7,7 +9,7 @@ mod numbers;
 mod places;
 
 // Where the doors stand.
-#[derive(Drop)]
+#[derive(Clone, Copy)]
 pub enum Doors {
     Closed,
     Opening,
@@ -16,7 +18,7 @@ pub enum Doors {
 }
 
 // Where the gears stand.
-#[derive(Drop)]
+#[derive(Clone, Copy)]
 pub enum Gears {
     Retracted,
     Extending,
@@ -25,21 +27,21 @@ pub enum Gears {
 }
 
 // What the handle aims at: up at RETRACTED, down at EXTENDED.
-#[derive(Drop)]
+#[derive(Clone, Copy)]
 pub enum Aim {
     ToRetracted,
     ToExtended,
 }
 
 // Doors and gears together.
-#[derive(Drop)]
+#[derive(Clone, Copy)]
 pub struct Place {
     pub doors: Doors,
     pub gears: Gears,
 }
 
 // What all three sensors of a kind are seen to say: all doors open, all closed, all gears extended, all retracted.
-#[derive(Drop)]
+#[derive(Clone, Copy)]
 pub struct Seen {
     pub opened: bool,
     pub closed: bool,

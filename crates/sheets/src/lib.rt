@@ -2,6 +2,8 @@
 // written. The rule is specs/Sheets.antt, from all bytes of the input to all bytes of the output, and specs/Runs.antt, the same by parts.
 // The reader is the crate `readback`'s: here each moment that it gives is written, and the line is counted, so that a program can name
 // the one that is refused. proofs/Law.antt says that however the input is cut, what is written in all is the sheet of the whole.
+#![tactic(auto)]
+
 ghost use Rattle.std.specs.Prelude.{◌≡◌, ◌+◌, ◌≤◌, false, [], length, take, drop, replicate};
 ghost use Rattle.texts.specs.Puts.{Put};
 ghost use Rattle.dump.specs.Wires.{wires};
@@ -19,7 +21,7 @@ pub const ROOM: usize = 22 + 2 * WIRES;
 
 // A sheet under way: the reader of the dump, the line that is being read, how many rows are written, and whether a 9 has ended it. Lines
 // and rows are counted modulo 2^64.
-#[derive(Drop)]
+#[derive(Clone, Copy)]
 pub struct Sheet {
     pub reader: Reader,
     pub line: u64,
@@ -28,7 +30,7 @@ pub struct Sheet {
 }
 
 // What a call gives: the sheet after it, how much of the part is used, how many bytes were written, and 0 or refusal 8.
-#[derive(Drop)]
+#[derive(Clone, Copy)]
 pub struct Took {
     pub sheet: Sheet,
     pub used: usize,
@@ -37,7 +39,7 @@ pub struct Took {
 }
 
 // What a call of the reader comes to: the sheet behind it, whether a moment is complete, its time, and how much is used.
-#[derive(Drop)]
+#[derive(Clone, Copy)]
 struct Turn {
     sheet: Sheet,
     given: bool,

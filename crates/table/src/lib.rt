@@ -1,5 +1,7 @@
 // The sequence as a table (requests K4 and K7): what comes next at each place of ground, handle, doors, gears and the four facts.
 // The rule is specs/Table.antt, which says what each entry is by the rule of `sequence`; the constant is proved to be that table.
+#![tactic(auto)]
+
 ghost use Rattle.std.specs.Prelude.{◌≡◌, ◌<◌};
 ghost use Rattle.sequence.specs.Moves.{aim_of, move_on};
 ghost use Rattle.table.specs.Sums.{weighed_at, table_number};
@@ -28,7 +30,7 @@ pub const ENTRIES: usize = 1024;
 const IN_THE_AIR: usize = 512;
 
 // What the table is asked: whether any absorber is on ground, handle, doors, gears, and what is seen.
-#[derive(Drop)]
+#[derive(Clone, Copy)]
 pub struct Asked {
     pub ground: bool,
     pub aim: Aim,

@@ -1,5 +1,7 @@
 // Puts pieces of text and numbers into a lent line, one after the other: what every writer of a row or a dump stands on.
 // The rule is specs/Puts.antt; a number is written as specs/Decimal.antt of `common` says.
+#![tactic(auto)]
+
 ghost use Rattle.std.specs.Prelude.{◌≡◌, ◌+◌, ◌≤◌, ◌<◌, length};
 ghost use Rattle.common.specs.Bits.{bit};
 ghost use Rattle.common.specs.Decimal.{decimal, digit0};
@@ -23,7 +25,7 @@ pub fn put(line: &mut [u8], at: usize, piece: &[u8]) -> usize
     if size - at < piece.len() {
         return at;
     }
-    at + bytes::copy(piece, &mut line[at..])
+    at + spans::copy(piece, &mut line[at..])
 }
 
 // The same for a number.

@@ -1,10 +1,11 @@
 -- Two texts are the same where they are equal.
 -- Assumes nothing.
-use mathlib.Core.Path.{◌≡◌, refl, sym, subst}
+use mathlib.Core.Path.{◌≡◌, refl, sym, ap, subst}
 use mathlib.Core.Bool.{Bool, true, false, ◌&&◌}
 use mathlib.Core.List.{List, [], ◌∷◌}
 use Prim.Native.Nat.{ℕ}
 use lib.Dec.{T, eqb}
+use lib.Pointwise.{pointwise}
 use borrow.Author.Tests.{eq-eqb, eqb-true}
 use Rattle.trace.specs.Header.{same_text}
 
@@ -24,10 +25,10 @@ same_is_equal (a ∷ s) (b ∷ t) h = by_test (eqb a b) refl (same_is_equal s t)
   by_test true p rest e = rw (eqb-true a b p, rest e)
   by_test false p rest e = absurd (subst T (sym e) tt)
 
--- An answer that is yes for equal texts and for no others says whether they are the same.
-pub as_same : (answer : Bool) (s t : List ℕ) → (answer ≡ true → s ≡ t) × (s ≡ t → answer ≡ true) → answer ≡ same_text s t
-as_same answer s t h = by_test answer (same_text s t) (λ e. rw (h.0 e) (same_self t)) (λ e. h.1 (same_is_equal s t e)) where
-  by_test : (x y : Bool) → (x ≡ true → y ≡ true) → (y ≡ true → x ≡ true) → x ≡ y
-  by_test true y to from = sym (to refl)
-  by_test false true to from = from refl
-  by_test false false to from = refl
+-- Two texts are compared byte by byte, as slices are.
+pub same_by_bytes : (s t : List ℕ) → pointwise eqb s t ≡ same_text s t
+unfolding same_text
+same_by_bytes [] [] = refl
+same_by_bytes [] (b ∷ t) = refl
+same_by_bytes (a ∷ s) [] = refl
+same_by_bytes (a ∷ s) (b ∷ t) = ap (λ rest. eqb a b && rest) (same_by_bytes s t)

@@ -1,5 +1,7 @@
 // Reads the rows of a trace: a field, a number, a triple, a whole row, and the header.
 // The rule is document 01, "The trace and its program" and "Refusal numbers"; specs/ says it.
+#![tactic(auto)]
+
 ghost use Rattle.std.specs.Prelude.{◌≡◌, cond, List, ℕ, length};
 ghost use Rattle.common.specs.Answers.{gives, refuses};
 ghost use Rattle.trace.specs.Answers.{number_says, triple_says, row_says};
@@ -11,28 +13,28 @@ ghost use Rattle.trace.specs.Header.{header_text, same_text};
 pub const LONGEST_ROW: usize = 512;
 
 // A field that should be a number.
-#[derive(Drop)]
+#[derive(Clone, Copy)]
 pub enum Number {
     Value(u32),
     NoNumber,
 }
 
 // A field that should be three digits 0 or 1.
-#[derive(Drop)]
+#[derive(Clone, Copy)]
 pub enum Triple {
     Channels(u8, u8, u8),
     NoTriple,
 }
 
 // The label that the next row must bear. After 4,294,967,295 there is none.
-#[derive(Drop)]
+#[derive(Clone, Copy)]
 pub enum Due {
     Label(u32),
     Nothing,
 }
 
 // What the row reader answers: the row's label and stamp, or a refusal number.
-#[derive(Drop)]
+#[derive(Clone, Copy)]
 pub enum Row {
     Taken { label: u32, stamp: u32 },
     Refused(u8),
@@ -118,7 +120,7 @@ pub fn read_row(row: &[u8], due: Due, sample: &mut [u8]) -> Row
     let Row::Taken { label: _, stamp: _ } = answer else {
         return answer;
     };
-    bytes::copy(&channels, sample);
+    spans::copy(&channels, sample);
     answer
 }
 
@@ -127,10 +129,7 @@ pub fn read_row(row: &[u8], due: Due, sample: &mut [u8]) -> Row
 pub fn is_header(row: &[u8]) -> bool
     ensures { result ≡ same_text row.now header_text }
 {
-    check::same(
-        row,
-        b"step,stamp,handle,analogical_switch,gear_extended_front,gear_extended_left,gear_extended_right,gear_retracted_front,gear_retracted_left,gear_retracted_right,gear_shock_absorber_front,gear_shock_absorber_left,gear_shock_absorber_right,door_closed_front,door_closed_left,door_closed_right,door_open_front,door_open_left,door_open_right,circuit_pressurized",
-    )
+    row == b"step,stamp,handle,analogical_switch,gear_extended_front,gear_extended_left,gear_extended_right,gear_retracted_front,gear_retracted_left,gear_retracted_right,gear_shock_absorber_front,gear_shock_absorber_left,gear_shock_absorber_right,door_closed_front,door_closed_left,door_closed_right,door_open_front,door_open_left,door_open_right,circuit_pressurized".as_slice()
 }
 
 // A digit 0 or 1.

@@ -2,6 +2,8 @@
 // The rule is specs/Voting.antt (document 01, "Voting"; request K5); what odd channel and count keep to is specs/Counts.antt (request K6). What a
 // sensor is in an image is the crate `sensors`.
 // The layers above lean on what stands here as a promise, and on nothing else of a voter.
+#![tactic(auto)]
+
 ghost use Rattle.std.specs.Prelude.{◌≡◌};
 ghost use Rattle.voter.specs.Voting.{majority_of, uncounted, voted, fresh_with, value_of, is_invalid};
 
@@ -13,7 +15,7 @@ mod of_two;
 const THIRD: u8 = 3;
 
 // Which channels still count; `Nothing` for an invalid sensor.
-#[derive(Drop)]
+#[derive(Clone, Copy)]
 pub enum Channels {
     All,
     Without1,
@@ -24,7 +26,7 @@ pub enum Channels {
 
 // A sensor: its channels that still count, the value held, the odd channel (1 to 3, or 0) and the count, 0 to 2: so many samples in
 // a row had that channel as the odd one or, with two valid, had the two differ. Any byte may stand in the last two.
-#[derive(Drop)]
+#[derive(Clone, Copy)]
 pub struct Voter {
     pub channels: Channels,
     pub held: bool,

@@ -1,5 +1,7 @@
 // What the programs say to a person, in one line on standard error, and how they put out what is written.
 // The lines are those of specs/Messages.antt. Of what an operating system does with them nothing can be promised.
+#![tactic(auto)]
+
 ghost use Rattle.std.specs.Prelude.{false, ◌++◌, ◌≡◌, ◌≤◌, T, length};
 ghost use Rattle.common.specs.Ascii.{ascii};
 ghost use Rattle.common.specs.Decimal.{decimal};

@@ -1,0 +1,21 @@
+-- `chart::csv::put_table` meets its contract: where there is room for the text, and where there is none.
+-- Assumes nothing.
+use Prim.Native.Nat.{◌+◌, ◌≤◌}
+use native.Mathlib.Omega.{arith}
+use lib.ListN.{length}
+use Rattle.texts.proofs.Placing.{no_room, as_put}
+use Rattle.chart.specs.Csv.{csv_text}
+use Rattle.chart.proofs.Lengths.{csv_length}
+use Rattle.chart.proofs.csv.put_table.Goals as goal
+
+pub returns-then-size-at : goal.returns-then-size-at
+returns-then-size-at c = no_room _ _ _ (omega (arith, csv_length))
+
+pub returns-then-size-at-lt-LENGTH : goal.returns-then-size-at-lt-LENGTH
+returns-then-size-at-lt-LENGTH c = no_room _ _ _ (omega (arith, csv_length))
+
+pub returns : goal.returns
+returns c =
+    let begin = c.args in
+    let room : begin.at + length csv_text ≤ length begin.out.now = omega (arith, csv_length) in
+    as_put room (c.put_all.ensures room)

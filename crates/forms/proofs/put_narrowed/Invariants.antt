@@ -1,0 +1,19 @@
+-- `forms::put_narrowed` meets its contract: after i turns the first i sensors stand there.
+-- Assumes nothing.
+use Prim.Native.Nat.{ℕ, ◌-◌, ◌≤◌}
+use native.Mathlib.Omega.{arith}
+use mathlib.Core.Path.{◌≡◌, refl, ap}
+use lib.ListN.{length, drop}
+use Rattle.texts.specs.Puts.{PutIfRoom}
+use Rattle.texts.proofs.Pieces.{nothing, same, and, put as puts}
+use Rattle.forms.specs.Forms.{stamp_bytes, sensors, sensors_narrowed}
+use Rattle.forms.proofs.Turns.{narrowed_turn}
+use borrow.Author.Rules.{rules}
+use Rattle.forms.proofs.put_narrowed.Given as goal
+
+abbrev pub invariant-loop-i : goal.invariant-loop-i
+invariant-loop-i l =
+    (l.i ≤ sensors) × (length l.out ≡ length l.initial.out) × PutIfRoom l.initial.out l.at (sensors_narrowed l.i (drop stamp_bytes l.new)) l.out l.next
+
+abbrev pub decreases-loop-i : goal.decreases-loop-i
+decreases-loop-i l = sensors - l.i

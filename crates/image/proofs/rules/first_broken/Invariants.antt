@@ -1,0 +1,21 @@
+-- `image::rules::first_broken` meets its contract: the rules that were looked at are kept, and are so many.
+-- Assumes nothing.
+use Prim.Native.Nat.{ℕ, suc, ◌+◌, ◌-◌, ◌<◌, ◌≤◌}
+use native.Mathlib.Omega.{arith}
+use mathlib.Core.Bool.{Bool, true, false, cond}
+use mathlib.Core.List.{List}
+use mathlib.Core.Path.{◌≡◌, ap, ◌∙◌}
+use borrow.Author.Tests.{not-true, not-false}
+use lib.ListN.{length, get_or, drop}
+use Rattle.image.specs.Rules.{rule_count}
+use Rattle.image.specs.Faults.{first_broken}
+use Rattle.image.proofs.Searching.{broken_turn, broken_end}
+use borrow.Author.Rules.{rules}
+use Rattle.image.proofs.rules.first_broken.Statement.{statement}
+use Rattle.image.proofs.rules.first_broken.Given as goal
+
+abbrev pub invariant-loop-k : goal.invariant-loop-k
+invariant-loop-k l = (l.k ≤ rule_count) × (first_broken l.tests ≡ l.k + first_broken (drop l.k l.tests))
+
+abbrev pub decreases-loop-k : goal.decreases-loop-k
+decreases-loop-k l = rule_count - l.k

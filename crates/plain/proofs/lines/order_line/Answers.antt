@@ -1,0 +1,10 @@
+-- `plain::lines::order_line` meets its contract: name, on or off, age and LF.
+-- Assumes nothing.
+use Rattle.texts.proofs.Pieces.{same, put, and}
+use Rattle.plain.proofs.Texts.{order_text}
+use Rattle.plain.proofs.lines.order_line.Goals as goal
+
+pub returns : goal.returns
+returns c =
+    same (order_text _ c.args.o)
+    (and (and (put c.put_order-named.ensures) (put c.put_on-told.ensures)) (and (put c.put_number-aged.ensures) (put c.put.ensures)))

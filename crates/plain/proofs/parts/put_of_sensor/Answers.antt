@@ -1,0 +1,12 @@
+-- `plain::parts::put_of_sensor` meets its contract: the name, and which of its four items it is.
+-- Assumes nothing.
+use Rattle.names.specs.Words.{sensor_names}
+use Rattle.texts.proofs.Pieces.{same, put, and}
+use Rattle.plain.specs.Parts.{sensor_items}
+use Rattle.plain.proofs.Named.{of_four}
+use Rattle.plain.proofs.parts.put_of_sensor.Goals as goal
+
+pub returns : goal.returns
+unfolding sensor_items
+returns c =
+    same (of_four sensor_names _ c.requires) (and (put c.put_sensor-named.ensures) c.put_sensor_part.ensures)

@@ -1,0 +1,14 @@
+-- `sheets::rows::put_row` meets its contract: the row's text is handed over.
+-- Assumes nothing.
+use Rattle.std.proofs.Common.{ap, ◌∙◌, arith, length-take, rules}
+use Rattle.texts.specs.Puts.{put_of}
+use Rattle.sheets.proofs.rows.put_row.Statement.{statement}
+use Rattle.sheets.proofs.rows.put_row.Goals as goal
+
+pub slice_bounds-put-end : goal.slice_bounds-put-end
+slice_bounds-put-end c = simp length-take (omega arith)
+
+pub returns : goal.returns
+returns c =
+    let a = c.args in
+    c.put.ensures ∙ ap (put_of a.line.now a.at) c.row_text-end.ensures.1.text

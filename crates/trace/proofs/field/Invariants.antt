@@ -1,0 +1,16 @@
+-- `trace::field` meets its contract. The loop's invariant: the bytes from `at` to `end` belong to the field. The field ends at the
+-- comma that is met, or at the row's end.
+-- Assumes nothing.
+use mathlib.Core.Path.{◌≡◌, refl}
+use Prim.Native.Nat.{◌≤◌, ◌-◌}
+use native.Mathlib.Omega.{arith}
+use borrow.Author.Rules.{rules}
+use lib.ListN.{length, drop}
+use Rattle.trace.proofs.Fields.{Within, starts, passes, stops, runs_out, past_end, is_part}
+use Rattle.trace.proofs.field.Given as goal
+
+abbrev pub invariant-loop-end : goal.invariant-loop-end
+invariant-loop-end l = (l.size ≡ length l.row) × (l.at ≤ l.end) × (l.end ≤ length l.row) × Within (drop l.at l.row) (l.end - l.at)
+
+abbrev pub decreases-loop-end : goal.decreases-loop-end
+decreases-loop-end l = l.size - l.end
