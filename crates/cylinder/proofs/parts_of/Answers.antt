@@ -15,7 +15,8 @@ returns-then-scaled c = below_is_none c.args.x c.well_formed.0.1 c.if-scaled.tru
 pub truncating_f32_to_u64-parts-requires : goal.truncating_f32_to_u64-parts-requires
 unfolding of_bits
 truncating_f32_to_u64-parts-requires c =
-    can_be_cut (mul binary32 c.args.x scale) c.if-scaled.false c.if-scaled-2.true
+    let cut = can_be_cut (mul binary32 c.args.x scale) c.if-scaled.false c.if-scaled-2.true in
+    record { lower_bound = cut.0; upper_bound = cut.1 }
 
 pub overflow_cast-parts : goal.overflow_cast-parts
 unfolding of_bits

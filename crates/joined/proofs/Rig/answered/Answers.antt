@@ -3,15 +3,12 @@
 use Rattle.std.proofs.Common.{eq-eqb, ne_eqb}
 use Rattle.joined.specs.Rigs.{answered_by}
 use Rattle.joined.proofs.Rig.answered.Statement.{statement}
-use Rattle.joined.proofs.Rig.answered.Tie as tie
+use Rattle.joined.proofs.Rig.answered.Goals as goal
 
-returns : tie.Need-returns
+pub returns-then-answer-ne0 : goal.returns-then-answer-ne0
 unfolding answered_by
-returns c = simp (ne_eqb _ _ c.if1.true)
+returns-then-answer-ne0 c = simp (ne_eqb _ _ c.if-answer-ne0.true)
 
-returns-2 : tie.Need-returns-2
+pub returns : goal.returns
 unfolding answered_by
-returns-2 c = simp (eq-eqb _ _ c.before.before.before.if1.false)
-
-pub answered_spec : {M : Type 1} → statement M
-answered_spec = tie.close (tie.spec returns returns-2)
+returns c = simp (eq-eqb _ _ c.if-answer-ne0.false)

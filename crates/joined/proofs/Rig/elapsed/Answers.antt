@@ -3,14 +3,8 @@
 use Rattle.controller.specs.Stages.{elapsed_of}
 use Rattle.std.proofs.Common.{arith, rules}
 use Rattle.joined.proofs.Rig.elapsed.Statement.{statement}
-use Rattle.joined.proofs.Rig.elapsed.Tie as tie
+use Rattle.joined.proofs.Rig.elapsed.Goals as goal
 
-wrapping-sub-u32-requires : tie.Need-wrapping-sub-u32-requires
-wrapping-sub-u32-requires c κs = search rules
-
-returns : tie.Need-returns
+pub returns : goal.returns
 unfolding elapsed_of
 returns c = omega arith
-
-pub elapsed_spec : {M : Type 1} → statement M
-elapsed_spec = tie.close (tie.spec wrapping-sub-u32-requires returns)

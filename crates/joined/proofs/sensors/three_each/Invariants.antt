@@ -1,0 +1,14 @@
+-- `joined::sensors::three_each` meets its contract: after i turns the first i sensors stand in front, three times each.
+-- Assumes nothing.
+use Rattle.std.proofs.Common.{◌≡◌, ◌-◌, ◌*◌, ◌≤◌, length, take, sym, refl, ap, ◌∙◌, arith, length-set, take_all, rules}
+use Rattle.controller.specs.Samples.{agreeing}
+use Rattle.joined.proofs.Channels.{channels_turn}
+use Rattle.joined.proofs.sensors.three_each.Statement.{statement}
+use Rattle.joined.proofs.sensors.three_each.Given as goal
+
+abbrev pub invariant-loop-i : goal.invariant-loop-i
+invariant-loop-i l =
+    (l.i ≤ 18) × (length l.sensors ≡ 18) × (length l.sample ≡ 54) × (take (3 * l.i) l.sample ≡ agreeing (take l.i l.sensors))
+
+abbrev pub decreases-loop-i : goal.decreases-loop-i
+decreases-loop-i l = 18 - l.i
