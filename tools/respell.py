@@ -30,6 +30,9 @@ TWINS = {
     "crates/readback/proofs/": {"firstCode": "first_code"},
 }
 
+# Names of variables and fields that are tactics' words today, which the gate refuses in a clause and in specs/.
+TACTICS = {"ground": "grounded"}
+
 RESERVED = set("""data record deriving module where use mod pub package open as unfoldable abbrev axiom unfold unfolding ruleset mutual infix
 infixl infixr elim let in do Type search grind simp rw omega cc ground assumption hlevel first_of""".split())
 
@@ -56,6 +59,10 @@ def snake(name):
 
 def turns(name):
     return name[0].islower() and bool(CAMEL.search(name) or DASHED.search(name) or "′" in name)
+
+
+# The files of a function's proof, which cite names that Rattle makes.
+WALKS = ("Proof.antt", "Answers.antt", "Invariants.antt")
 
 
 def read(path):
@@ -101,8 +108,8 @@ def words(pattern, text):
 
 
 def made(text):
-    """The names of a Proof.antt that are those of Rattle's goals."""
-    return set(re.findall(r"^(?:pub )?(\S+) :\s+tie\.", text, re.M))
+    """The names of a proof of a function that are those of Rattle's goals."""
+    return set(re.findall(r"^(?:abbrev )?(?:pub )?(\S+) :\s+(?:tie|goal)\.", text, re.M))
 
 
 def declared(text):
@@ -120,7 +127,7 @@ def declared(text):
 def antt(path, text, table):
     """The names of an antt file that turn."""
     own, others = imported(text)
-    goals = made(text) if path.endswith("Proof.antt") else set()
+    goals = made(text) if path.endswith(WALKS) else set()
     here = (declared(text) | own) - others - goals
     modules = {name for at, name in re.findall(r"^use ([\w.]+) as (\S+)", text, re.M) if is_own(at)}
     twins = {new for at, pairs in TWINS.items() if path.startswith(at) for old, new in pairs.items() if old in table}
@@ -130,7 +137,7 @@ def antt(path, text, table):
             yield m.start(), name
         if m.lastgroup != "word" or not turns(name) or name in others or name in goals:
             continue
-        if path.endswith("Proof.antt") and root not in (None, "=", ")") and root not in modules and DASHED.search(name):
+        if path.endswith(WALKS) and root not in (None, "=", ")") and root not in modules and DASHED.search(name):
             continue
         if root is None and name not in here:
             if CAMEL.search(name):
@@ -159,7 +166,7 @@ def collect(paths):
     for path in paths:
         text = read(path)
         _, others = imported(text)
-        goals = made(text) if path.endswith("Proof.antt") else set()
+        goals = made(text) if path.endswith(WALKS) else set()
         for name in declared(text) - others - goals:
             table.now.add(snake(name) if turns(name) else name)
             if turns(name):
@@ -218,6 +225,27 @@ def met(path, text, spots):
     return n
 
 
+def no_tactics():
+    """Variables and fields with a tactic's name get another, in code alone."""
+    for path in files("crates/*/specs/**/*.antt", "crates/*/proofs/**/*.antt", "crates/*/src/**/*.rt", "crates/*/must-fail/*.edit"):
+        text = read(path)
+        pattern = ANTT if path.endswith(".antt") else RUST
+
+        def word(name):
+            return re.sub(r"(?<![\w'])(" + "|".join(TACTICS) + r")(?![\w'-])", lambda m: TACTICS[m.group()], name)
+
+        def named(line):
+            return "".join(word(m.group()) if m.lastgroup == "word" else m.group() for m in pattern.finditer(line))
+
+        if path.endswith(".edit"):
+            new = "".join(named(line) if line.startswith(("old:", "new:")) else line for line in text.splitlines(True))
+        else:
+            new = named(text)
+        if new != text and "--look" not in sys.argv:
+            with open(path, "w", encoding="utf-8") as f:
+                f.write(new)
+
+
 def main():
     paths = files("crates/*/specs/**/*.antt", "crates/*/proofs/**/*.antt")
     table = collect(paths)
@@ -251,6 +279,7 @@ def main():
         if new != text and "--look" not in sys.argv:
             with open(path, "w", encoding="utf-8") as f:
                 f.write(new)
+    no_tactics()
     print(f"respell: {len(turned)} names turned, {n} meet another")
 
 

@@ -11,10 +11,13 @@ const OUT: [u8; 3] = *b"out";
 const SAVED: [u8; 9] = *b"saved.img";
 
 // Whether a case is as stored.
-pub(crate) fn case(name: &[u8]) -> bool {
+pub(crate) fn case(rt: HostRuntime, name: &[u8]) -> bool {
     let mut image = [0u8; image::SIZE + 1];
-    let n = files::read(name, b".img", &mut image);
-    no_room(&image[..n]) & to_new(name, &image[..n]) & to_old(name, &image[..n]) & there(name)
+    let n = files::read(rt, name, b".img", &mut image);
+    no_room(&image[..n])
+        & to_new(rt, name, &image[..n])
+        & to_old(rt, name, &image[..n])
+        & there(rt, name)
 }
 
 // Whether buffers that are a byte short get 8, whatever the image is.
@@ -25,23 +28,32 @@ fn no_room(image: &[u8]) -> bool {
 }
 
 // Whether an image is converted to the new form as stored.
-fn to_new(name: &[u8], image: &[u8]) -> bool {
+fn to_new(rt: HostRuntime, name: &[u8], image: &[u8]) -> bool {
     let mut out = [7u8; forms::NEW + 1];
     let refusal = converting::to_new(image, &mut out);
-    is_stored(name, b".new", refusal, &out, forms::NEW) & on_disk(name, b".new", refusal, Form::New)
+    is_stored(rt, name, b".new", refusal, &out, forms::NEW)
+        & on_disk(rt, name, b".new", refusal, Form::New)
 }
 
 // Whether it is converted to the old form as stored.
-fn to_old(name: &[u8], image: &[u8]) -> bool {
+fn to_old(rt: HostRuntime, name: &[u8], image: &[u8]) -> bool {
     let mut out = [7u8; forms::OLD + 1];
     let refusal = converting::to_old(image, &mut out);
-    is_stored(name, b".old", refusal, &out, forms::OLD) & on_disk(name, b".old", refusal, Form::Old)
+    is_stored(rt, name, b".old", refusal, &out, forms::OLD)
+        & on_disk(rt, name, b".old", refusal, Form::Old)
 }
 
 // Whether what is stored is the refusal, or the first bytes, as many as the form has.
-fn is_stored(name: &[u8], ending: &[u8], refusal: u8, out: &[u8], size: usize) -> bool {
+fn is_stored(
+    rt: HostRuntime,
+    name: &[u8],
+    ending: &[u8],
+    refusal: u8,
+    out: &[u8],
+    size: usize,
+) -> bool {
     let mut kept = [0u8; forms::NEW + 1];
-    let n = files::read(name, ending, &mut kept);
+    let n = files::read(rt, name, ending, &mut kept);
     if refusal == 0 {
         return parts::is_all(&kept[..n], 0, out, size);
     }
@@ -49,9 +61,9 @@ fn is_stored(name: &[u8], ending: &[u8], refusal: u8, out: &[u8], size: usize) -
 }
 
 // Whether the file that is written is what is stored, and none is where it is refused.
-fn on_disk(name: &[u8], ending: &[u8], refusal: u8, form: Form) -> bool {
-    let saved = converted(name, form);
-    let same = files::same(&SAVED, name, ending);
+fn on_disk(rt: HostRuntime, name: &[u8], ending: &[u8], refusal: u8, form: Form) -> bool {
+    let saved = converted(rt, name, form);
+    let same = files::same(rt, &SAVED, name, ending);
     if refusal == 0 {
         return saved & same;
     }
@@ -59,17 +71,18 @@ fn on_disk(name: &[u8], ending: &[u8], refusal: u8, form: Form) -> bool {
 }
 
 // Converts file to file, and answers whether one stands there.
-fn converted(name: &[u8], form: Form) -> bool {
-    let mut path = io::buffer();
+fn converted(rt: HostRuntime, name: &[u8], form: Form) -> bool {
+    let mut path = words::rooms::small();
     let n = files::put_path(&mut path, name, b".img");
-    os::unlink(&SAVED);
-    let to = os::open_overwrite(&OUT);
-    let answer = conversions::convert(to, &SAVED, &path[..n], form);
-    libc::close(to);
-    answer.saved | files::both(&SAVED, b"", b"")
+    files::remove(rt, &SAVED);
+    let Ok(mut streams) = files::onto(rt, &OUT) else {
+        return false;
+    };
+    let answer = conversions::convert(&rt, &mut streams, &SAVED, &path[..n], form);
+    answer.saved | files::both(rt, &SAVED, b"", b"")
 }
 
 // Whether the files of a case are there.
-fn there(name: &[u8]) -> bool {
-    files::both(name, b".img", b".new") & files::both(name, b".img", b".old")
+fn there(rt: HostRuntime, name: &[u8]) -> bool {
+    files::both(rt, name, b".img", b".new") & files::both(rt, name, b".img", b".old")
 }

@@ -1,21 +1,29 @@
 // The files of a case: its name, and an ending for each.
-ghost use Rattle.std.specs.Prelude.{◌≡◌, length};
-ghost use Rattle.io.specs.Counts.{IsPrefixLen};
+ghost use Rattle.std.specs.Prelude.{◌≡◌, ◌≤◌, length};
 
 use crate::parts;
+use std::fs::File;
+use std::io::{Empty, Error, ErrorKind, Read, Stderr};
+use std::{fs, io};
+use words::Streams;
+
+// What a word of the programs reads from and writes to: from a file to a file, or to one from nothing.
+pub(crate) type Between = Streams<File, File, Stderr>;
+
+pub(crate) type Onto = Streams<Empty, File, Stderr>;
 
 // Whether what was written to a file is what is stored, and that is there.
-pub(crate) fn same(written: &[u8], name: &[u8], ending: &[u8]) -> bool {
+pub(crate) fn same(rt: HostRuntime, written: &[u8], name: &[u8], ending: &[u8]) -> bool {
     let mut bytes = room();
     let mut stored = room();
-    let n = read(written, b"", &mut bytes);
-    let m = read(name, ending, &mut stored);
-    check::same(&bytes[..n], &stored[..m]) & has(name, ending)
+    let n = read(rt, written, b"", &mut bytes);
+    let m = read(rt, name, ending, &mut stored);
+    check::same(&bytes[..n], &stored[..m]) & has(rt, name, ending)
 }
 
 // Whether both files are there: what a case is run on, and what must be written.
-pub(crate) fn both(name: &[u8], given: &[u8], written: &[u8]) -> bool {
-    has(name, given) & has(name, written)
+pub(crate) fn both(rt: HostRuntime, name: &[u8], given: &[u8], written: &[u8]) -> bool {
+    has(rt, name, given) & has(rt, name, written)
 }
 
 // Room for any file.
@@ -26,40 +34,95 @@ pub(crate) fn room() -> [u8; 327680]
 }
 
 // Reads the file with this ending, and answers how many bytes it has.
-pub(crate) fn read(name: &[u8], ending: &[u8], into: &mut [u8]) -> usize
-    ensures { IsPrefixLen result into.new }
+pub(crate) fn read(rt: HostRuntime, name: &[u8], ending: &[u8], into: &mut [u8]) -> usize
+    ensures { result ≤ length into.new }
 {
-    let fd = open(name, ending);
-    let n = io::read_full(fd, into);
-    libc::close(fd);
+    match open(rt, name, ending) {
+        Ok(file) => read_open(file, into),
+        Err(_) => 0,
+    }
+}
+
+// Reads an open file until the buffer is full, the file ends or a read fails, and answers how many bytes there are.
+fn read_open(mut file: File, into: &mut [u8]) -> usize
+    ensures { result ≤ length into.new }
+{
+    let mut n = 0;
+    while n < into.len() {
+        match file.read(&mut into[n..]) {
+            Ok(0) => return n,
+            Ok(more) => n += more,
+            Err(_) => return n,
+        }
+    }
     n
 }
 
 // Opens it.
-pub(crate) fn open(name: &[u8], ending: &[u8]) -> i32 {
-    let mut path = io::buffer();
+pub(crate) fn open(rt: HostRuntime, name: &[u8], ending: &[u8]) -> io::Result<File> {
+    let mut path = words::rooms::small();
     let n = put_path(&mut path, name, ending);
-    os::open_read(&path[..n])
+    open_path(rt, &path[..n])
+}
+
+// Opens the file that has this path, to be read.
+pub(crate) fn open_path(rt: HostRuntime, path: &[u8]) -> io::Result<File> {
+    fs::open(&rt, text_of(path)?)
+}
+
+// Opens one that is written anew.
+pub(crate) fn overwrite(rt: HostRuntime, path: &[u8]) -> io::Result<File> {
+    fs::create(&rt, text_of(path)?)
+}
+
+// Opens a case's file with this ending to be read, and a file that is written anew.
+pub(crate) fn between(
+    rt: HostRuntime,
+    name: &[u8],
+    ending: &[u8],
+    to: &[u8],
+) -> io::Result<Between> {
+    Ok(Streams {
+        input: open(rt, name, ending)?,
+        output: overwrite(rt, to)?,
+        errors: rt.stderr(),
+    })
+}
+
+// The same with nothing to be read.
+pub(crate) fn onto(rt: HostRuntime, to: &[u8]) -> io::Result<Onto> {
+    Ok(Streams {
+        input: io::empty(),
+        output: overwrite(rt, to)?,
+        errors: rt.stderr(),
+    })
+}
+
+// Removes a file, if it is there.
+pub(crate) fn remove(rt: HostRuntime, path: &[u8]) {
+    if let Ok(text) = text_of(path) {
+        let _ = fs::remove_file(&rt, text);
+    }
 }
 
 // Puts its path at the front of a buffer, and answers how many bytes that is.
 pub(crate) fn put_path(path: &mut [u8], name: &[u8], ending: &[u8]) -> usize
-    ensures { IsPrefixLen result path.new }
+    ensures { result ≤ length path.new }
 {
     let at = texts::put(path, 0, name);
     let end = texts::put(path, at, ending);
     parts::first(end, path)
 }
 
-// Closes what was read and what was written.
-pub(crate) fn close(from: i32, to: i32) {
-    libc::close(from);
-    libc::close(to);
+// Whether it is there.
+fn has(rt: HostRuntime, name: &[u8], ending: &[u8]) -> bool {
+    open(rt, name, ending).is_ok()
 }
 
-// Whether it is there.
-fn has(name: &[u8], ending: &[u8]) -> bool {
-    let fd = open(name, ending);
-    libc::close(fd);
-    0 <= fd
+// A path as a text, which the system's functions take alone.
+fn text_of(path: &[u8]) -> io::Result<&str> {
+    match std::str::from_utf8(path) {
+        Ok(text) => Ok(text),
+        Err(_) => Err(Error::from(ErrorKind::InvalidData)),
+    }
 }

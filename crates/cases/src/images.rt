@@ -4,12 +4,12 @@ use crate::{files, parts};
 use controller::{Answer, State};
 
 // Whether a case is as stored.
-pub(crate) fn case(name: &[u8]) -> bool {
+pub(crate) fn case(rt: HostRuntime, name: &[u8]) -> bool {
     let mut image = [0u8; image::SIZE + 1];
-    let mut stored = io::buffer();
-    let n = files::read(name, b".img", &mut image);
-    let m = files::read(name, b".txt", &mut stored);
-    shown(&image[..n], &stored[..m]) & files::both(name, b".img", b".txt")
+    let mut stored = words::rooms::small();
+    let n = files::read(rt, name, b".img", &mut image);
+    let m = files::read(rt, name, b".txt", &mut stored);
+    shown(&image[..n], &stored[..m]) & files::both(rt, name, b".img", b".txt")
 }
 
 // Loads an image at its own stamp.
@@ -29,7 +29,7 @@ fn shown(image: &[u8], stored: &[u8]) -> bool {
 
 // Whether the words of a controller are as stored.
 fn in_words(state: State, stored: &[u8]) -> bool {
-    let mut out = io::buffer();
+    let mut out = words::rooms::small();
     let n = plain::put(&mut out, 0, state);
     parts::is_all(stored, 0, &out, n)
 }

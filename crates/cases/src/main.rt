@@ -13,7 +13,8 @@ mod runs;
 mod trial;
 mod values;
 
-use libc::STDOUT_FILENO;
+use std::io::Write;
+use words::{arguments, rooms};
 
 // A group under way: the first letter of its word, by which it is run, the argument that has the word, and how many cases were as
 // stored.
@@ -24,40 +25,38 @@ struct Group {
     same: u64,
 }
 
-fn main() {
-    let count = os::arg_count();
+fn main(rt: HostRuntime) {
+    let count = arguments::count(&rt);
     let mut group = Group {
         letter: 0,
         head: 0,
         same: 0,
     };
-    let mut i = 1;
-    while i < count {
-        group = take(group, i);
-        i += 1;
+    for i in 1..count {
+        group = take(rt, group, i);
     }
-    total(group);
-    trial::all();
+    total(rt, group);
+    trial::all(rt);
 }
 
 // Takes an argument.
-fn take(group: Group, i: usize) -> Group {
-    let mut word = io::buffer();
-    let n = os::arg(i, &mut word);
-    take_word(group, i, &word[..n])
+fn take(rt: HostRuntime, group: Group, i: usize) -> Group {
+    let mut word = rooms::small();
+    let n = arguments::word(&rt, i, &mut word);
+    take_word(rt, group, i, &word[..n])
 }
 
 // Takes the name of a case, or the word of the next group.
-fn take_word(group: Group, i: usize, word: &[u8]) -> Group {
+fn take_word(rt: HostRuntime, group: Group, i: usize, word: &[u8]) -> Group {
     let letter = letter_of(word);
     if letter == 0 {
         return Group {
             letter: group.letter,
             head: group.head,
-            same: std::num::wrapping_add_u64(group.same, as_stored(group.letter, word)),
+            same: std::num::wrapping_add_u64(group.same, as_stored(rt, group.letter, word)),
         };
     }
-    total(group);
+    total(rt, group);
     Group {
         letter,
         head: i,
@@ -66,12 +65,12 @@ fn take_word(group: Group, i: usize, word: &[u8]) -> Group {
 }
 
 // 1 for a case that is as stored; of any other it says that it differs.
-fn as_stored(letter: u8, name: &[u8]) -> u64 {
-    if case(letter, name) {
+fn as_stored(rt: HostRuntime, letter: u8, name: &[u8]) -> u64 {
+    if case(rt, letter, name) {
         return 1;
     }
-    io::write_all(STDOUT_FILENO, name);
-    io::write_all(STDOUT_FILENO, b" DIFFERS\n");
+    put(rt, name);
+    put(rt, b" DIFFERS\n");
     0
 }
 
@@ -88,30 +87,35 @@ fn letter_of(word: &[u8]) -> u8 {
 }
 
 // Runs a case, and answers whether it was as stored.
-fn case(letter: u8, name: &[u8]) -> bool {
+fn case(rt: HostRuntime, letter: u8, name: &[u8]) -> bool {
     match letter {
-        b'r' => runs::rows(name),
-        b'd' => runs::dump(name),
-        b'v' => runs::sheet(name, 0) & values::case(name, 0),
-        b'b' => runs::sheet(name, 9) & values::case(name, 9),
-        b'i' => runs::image(name),
-        b'o' => runs::onward(name),
-        b'w' => images::case(name),
-        b'f' => conversions::case(name),
-        b't' => runs::table(name),
+        b'r' => runs::rows(rt, name),
+        b'd' => runs::dump(rt, name),
+        b'v' => runs::sheet(rt, name, 0) & values::case(rt, name, 0),
+        b'b' => runs::sheet(rt, name, 9) & values::case(rt, name, 9),
+        b'i' => runs::image(rt, name),
+        b'o' => runs::onward(rt, name),
+        b'w' => images::case(rt, name),
+        b'f' => conversions::case(rt, name),
+        b't' => runs::table(rt, name),
         _ => false,
     }
 }
 
 // Says how many cases of a group were as stored.
-fn total(group: Group) {
+fn total(rt: HostRuntime, group: Group) {
     if group.letter == 0 {
         return;
     }
-    let mut word = io::buffer();
-    let n = os::arg(group.head, &mut word);
-    io::write_all(STDOUT_FILENO, &word[..n]);
-    io::write_all(STDOUT_FILENO, b" ");
-    io::print_decimal(STDOUT_FILENO, group.same);
-    io::write_all(STDOUT_FILENO, b" as stored\n");
+    let mut word = rooms::small();
+    let n = arguments::word(&rt, group.head, &mut word);
+    put(rt, &word[..n]);
+    put(rt, b" ");
+    let _ = rt.print(group.same);
+    put(rt, b" as stored\n");
+}
+
+// Puts a text out.
+fn put(rt: HostRuntime, text: &[u8]) {
+    let _ = rt.stdout().write_all(text);
 }

@@ -1,6 +1,5 @@
 // How what is stored is taken in by parts, and how what is written is held to what is stored.
-ghost use Rattle.std.specs.Prelude.{◌<◌, ◌≤◌};
-ghost use Rattle.io.specs.Counts.{IsPrefixLen};
+ghost use Rattle.std.specs.Prelude.{◌<◌, ◌≤◌, length};
 
 // A place that no file has: something was not as stored.
 pub const NOWHERE: usize = usize::MAX;
@@ -33,7 +32,7 @@ pub(crate) fn after(from: usize, used: usize, n: usize) -> usize
 
 // The first n bytes of a buffer, or none where it has fewer: how many.
 pub(crate) fn first(n: usize, bytes: &[u8]) -> usize
-    ensures { IsPrefixLen result bytes.now }
+    ensures { result ≤ length bytes.now }
 {
     if bytes.len() < n {
         return 0;

@@ -1,8 +1,12 @@
 // Every word of the programs, by the functions that the programs call, on stored input that is read in several parts: a CRLF lies across the
 // end of one, and the last row lacks its own. What `save` wrote is shown, gone on from, converted there and back, and still there where nothing was saved. What is
 // written is held to what the peer wrote.
+use crate::{files, put};
 use commands::uses::by_words;
-use libc::STDOUT_FILENO;
+use std::fs::File;
+use std::io;
+use std::io::{Stderr, Stdout};
+use words::Streams;
 
 // The lesson up to where it is handed over, its further trace, and where its image is saved.
 const FIRST: [u8; 14] = *b"trial/first.in";
@@ -17,113 +21,130 @@ const OLD: [u8; 13] = *b"trial/old.img";
 const NEW: [u8; 13] = *b"trial/new.img";
 
 // All words, and some that are no use of them.
-pub(crate) fn all() {
-    replay(b"trial/lesson.in");
-    alone(b"waves", b"trial/lesson.in");
-    alone(b"sheet", b"trial/long.vcd");
-    save(&IMAGE, &FIRST);
-    handover(b"resume", &IMAGE, &ONWARD);
-    waves_onward();
-    convert(b"old", &OLD, &IMAGE);
-    convert(b"new", &NEW, &OLD);
-    convert(b"old", &NEW, b"trial/bouncing.img");
-    kept();
-    no_use();
-    wall(b"csv");
-    wall(b"page");
+pub(crate) fn all(rt: HostRuntime) {
+    replay(rt, b"trial/lesson.in");
+    alone(rt, b"waves", b"trial/lesson.in");
+    alone(rt, b"sheet", b"trial/long.vcd");
+    save(rt, &IMAGE, &FIRST);
+    handover(rt, b"resume", &IMAGE, &ONWARD);
+    waves_onward(rt);
+    convert(rt, b"old", &OLD, &IMAGE);
+    convert(rt, b"new", &NEW, &OLD);
+    convert(rt, b"old", &NEW, b"trial/bouncing.img");
+    kept(rt);
+    no_use(rt);
+    wall(rt, b"csv");
+    wall(rt, b"page");
 }
 
 // Of these nothing is written.
-fn no_use() {
-    alone(b"rig", b"/dev/null");
-    alone(b"wall", b"/dev/null");
-    wall(b"sheet");
-    handover(b"load", &IMAGE, &ONWARD);
+fn no_use(rt: HostRuntime) {
+    alone(rt, b"rig", b"/dev/null");
+    alone(rt, b"wall", b"/dev/null");
+    wall(rt, b"sheet");
+    handover(rt, b"load", &IMAGE, &ONWARD);
 }
 
 // Where nothing is read, what a lesson is to go on from is no image, or what would be replaced is none, nothing is saved, and what stands there
 // is as it was; a torn last row does not lose the lesson.
-fn kept() {
-    save_onward(&IMAGE);
-    save_onward(&FIRST);
-    save(&IMAGE, b"/dev/null");
-    save(&FIRST, &FIRST);
-    save(b"trial/torn.img", b"trial/torn.in");
+fn kept(rt: HostRuntime) {
+    save_onward(rt, &IMAGE);
+    save_onward(rt, &FIRST);
+    save(rt, &IMAGE, b"/dev/null");
+    save(rt, &FIRST, &FIRST);
+    save(rt, b"trial/torn.img", b"trial/torn.in");
 }
 
 // A trace by `replay`.
-fn replay(path: &[u8]) {
-    say(b"replay", b"", b"", b"", path);
-    let trace = os::open_read(path);
-    running::traces::replay(trace, STDOUT_FILENO);
-    libc::close(trace);
+fn replay(rt: HostRuntime, path: &[u8]) {
+    say(rt, b"replay", b"", b"", b"", path);
+    if let Ok(mut streams) = on_file(rt, path) {
+        running::traces::replay(&mut streams);
+    }
 }
 
 // A word by itself.
-fn alone(word: &[u8], path: &[u8]) {
-    say(word, b"", b"", b"", path);
-    does(2, word, b"", b"", b"", path);
+fn alone(rt: HostRuntime, word: &[u8], path: &[u8]) {
+    say(rt, word, b"", b"", b"", path);
+    does(rt, 2, word, b"", b"", b"", path);
 }
 
 // The dump of a lesson that goes on from the image.
-fn waves_onward() {
-    say(b"waves", &IMAGE, b"", b"", &ONWARD);
-    does(3, b"waves", &IMAGE, b"", b"", &ONWARD);
+fn waves_onward(rt: HostRuntime) {
+    say(rt, b"waves", &IMAGE, b"", b"", &ONWARD);
+    does(rt, 3, b"waves", &IMAGE, b"", b"", &ONWARD);
 }
 
-fn wall(word: &[u8]) {
-    say(b"wall", word, b"", b"", b"/dev/null");
-    does(3, b"wall", word, b"", b"", b"/dev/null");
+fn wall(rt: HostRuntime, word: &[u8]) {
+    say(rt, b"wall", word, b"", b"", b"/dev/null");
+    does(rt, 3, b"wall", word, b"", b"", b"/dev/null");
 }
 
-fn handover(word: &[u8], image: &[u8], path: &[u8]) {
-    say(b"handover", word, image, b"", path);
-    does(4, b"handover", word, image, b"", path);
+fn handover(rt: HostRuntime, word: &[u8], image: &[u8], path: &[u8]) {
+    say(rt, b"handover", word, image, b"", path);
+    does(rt, 4, b"handover", word, image, b"", path);
 }
 
 // An image is converted; what then stands at the path.
-fn convert(word: &[u8], path: &[u8], image: &[u8]) {
-    say(b"handover", word, path, image, b"/dev/null");
-    does(5, b"handover", word, path, image, b"/dev/null");
-    handover(b"show", path, b"/dev/null");
+fn convert(rt: HostRuntime, word: &[u8], path: &[u8], image: &[u8]) {
+    say(rt, b"handover", word, path, image, b"/dev/null");
+    does(rt, 5, b"handover", word, path, image, b"/dev/null");
+    handover(rt, b"show", path, b"/dev/null");
 }
 
 // A lesson is handed over from a fresh start; what then stands at the path.
-fn save(image: &[u8], path: &[u8]) {
-    handover(b"save", image, path);
-    handover(b"show", image, b"/dev/null");
+fn save(rt: HostRuntime, image: &[u8], path: &[u8]) {
+    handover(rt, b"save", image, path);
+    handover(rt, b"show", image, b"/dev/null");
 }
 
 // The lesson is handed over again, from what stands at a path.
-fn save_onward(old: &[u8]) {
-    say(b"handover", b"save", &IMAGE, old, &ONWARD);
-    does(5, b"handover", b"save", &IMAGE, old, &ONWARD);
-    handover(b"show", &IMAGE, b"/dev/null");
+fn save_onward(rt: HostRuntime, old: &[u8]) {
+    say(rt, b"handover", b"save", &IMAGE, old, &ONWARD);
+    does(rt, 5, b"handover", b"save", &IMAGE, old, &ONWARD);
+    handover(rt, b"show", &IMAGE, b"/dev/null");
 }
 
 // What the words ask for, with a file as its input.
-fn does(count: usize, first: &[u8], second: &[u8], third: &[u8], fourth: &[u8], path: &[u8]) {
-    let input = os::open_read(path);
-    by_words(count, first, second, third, fourth, input, STDOUT_FILENO);
-    libc::close(input);
+fn does(
+    rt: HostRuntime,
+    count: usize,
+    first: &[u8],
+    second: &[u8],
+    third: &[u8],
+    fourth: &[u8],
+    path: &[u8],
+) {
+    if let Ok(mut streams) = on_file(rt, path) {
+        by_words(&rt, &mut streams, count, first, second, third, fourth);
+    }
+}
+
+// A file as the input, and the program's own output.
+fn on_file(rt: HostRuntime, path: &[u8]) -> io::Result<Streams<File, Stdout, Stderr>> {
+    Ok(Streams {
+        input: files::open_path(rt, path)?,
+        output: rt.stdout(),
+        errors: rt.stderr(),
+    })
 }
 
 // Puts out which words come next, and what they read.
-fn say(first: &[u8], second: &[u8], third: &[u8], fourth: &[u8], path: &[u8]) {
-    io::write_all(STDOUT_FILENO, b"==");
-    word(first);
-    word(second);
-    word(third);
-    word(fourth);
-    word(b"<");
-    word(path);
-    io::write_all(STDOUT_FILENO, b"\n");
+fn say(rt: HostRuntime, first: &[u8], second: &[u8], third: &[u8], fourth: &[u8], path: &[u8]) {
+    put(rt, b"==");
+    word(rt, first);
+    word(rt, second);
+    word(rt, third);
+    word(rt, fourth);
+    word(rt, b"<");
+    word(rt, path);
+    put(rt, b"\n");
 }
 
 // A word, with the blank in front of it, if there is one.
-fn word(text: &[u8]) {
+fn word(rt: HostRuntime, text: &[u8]) {
     if text.len() != 0 {
-        io::write_all(STDOUT_FILENO, b" ");
-        io::write_all(STDOUT_FILENO, text);
+        put(rt, b" ");
+        put(rt, text);
     }
 }

@@ -9,8 +9,8 @@ use readback::{Reader, Took};
 const LENT: u8 = 2;
 
 // Whether a case is as stored, and ends in this refusal: 0, or 9 for what is no dump.
-pub(crate) fn case(name: &[u8], refusal: u8) -> bool {
-    run(name, refusal, false) & run(name, refusal, true)
+pub(crate) fn case(rt: HostRuntime, name: &[u8], refusal: u8) -> bool {
+    run(rt, name, refusal, false) & run(rt, name, refusal, true)
 }
 
 // The header of what is stored.
@@ -21,11 +21,11 @@ fn header(stored: &[u8]) -> usize {
 }
 
 // Whether its moments are in parts of one length.
-fn run(name: &[u8], refusal: u8, small: bool) -> bool {
+fn run(rt: HostRuntime, name: &[u8], refusal: u8, small: bool) -> bool {
     let mut dump = files::room();
     let mut stored = files::room();
-    let n = files::read(name, b".vcd", &mut dump);
-    let m = files::read(name, b".csv", &mut stored);
+    let n = files::read(rt, name, b".vcd", &mut dump);
+    let m = files::read(rt, name, b".csv", &mut stored);
     runs(&dump[..n], refusal, small, &stored[..m])
 }
 

@@ -15,7 +15,7 @@ use Rattle.chart.specs.Csv.{place_fields, fact_field, fact_fields, asked_fields,
 
 -- What is asked: ground, handle, doors and gears, facts.
 pub asked_text : (a : Asked)
-    → (comma ∷ (fact_field a.ground ++ comma ∷ [])) ++ (handle_word a.aim ++ (comma ∷ decimal (handle_number a.aim)) ++ behind (place_fields a.place) ++ behind (fact_fields a.seen))
+    → (comma ∷ (fact_field a.grounded ++ comma ∷ [])) ++ (handle_word a.aim ++ (comma ∷ decimal (handle_number a.aim)) ++ behind (place_fields a.place) ++ behind (fact_fields a.seen))
     ≡ behind (asked_fields a)
 unfolding joined_by_commas
 asked_text a = simp append_assoc

@@ -36,7 +36,7 @@ fact_fields seen =
 
 -- What is asked: ground, handle, doors, gears, and the facts.
 abbrev pub asked_fields : Asked → List (List ℕ)
-asked_fields a = fact_field a.ground ∷ numbered (handle_word a.aim) (handle_number a.aim) ++ place_fields a.place ++ fact_fields a.seen
+asked_fields a = fact_field a.grounded ∷ numbered (handle_word a.aim) (handle_number a.aim) ++ place_fields a.place ++ fact_fields a.seen
 
 -- The entry's number; what is asked; what comes next; and 1 if a reached state can ask it.
 abbrev pub row_fields : ℕ → Asked → List (List ℕ)

@@ -68,7 +68,7 @@ is_named AllRetracted = true
 
 -- What comes next of what is asked, where a fact is seen by itself.
 abbrev pub next_with : Asked → Deciding → Place
-next_with a fact = move_on a.ground a.aim a.place (alone fact)
+next_with a fact = move_on a.grounded a.aim a.place (alone fact)
 
 -- A fact, seen by itself, makes a difference there.
 unfoldable pub decides : Asked → Deciding → Bool

@@ -67,8 +67,8 @@ fn put_asked(text: &mut [u8], at: usize, asked: Asked) -> usize
     let aim = asked.aim;
     let place = asked.place;
     let facts = facts_piece(asked.seen);
-    let ground = ground_piece(asked.ground);
-    let next = texts::put(text, at, &ground);
+    let grounded = ground_piece(asked.grounded);
+    let next = texts::put(text, at, &grounded);
     let handled = names::put_handle(text, next, aim);
     let numbered = put_field(text, handled, aim.number() as u64);
     let placed = put_place(text, numbered, place);
@@ -98,10 +98,10 @@ fn put_field(text: &mut [u8], at: usize, n: u64) -> usize
 }
 
 // The field of the ground, between its commas.
-fn ground_piece(ground: bool) -> [u8; 3]
-    ensures { result ≡ comma ∷ (fact_field ground ++ comma ∷ []) }
+fn ground_piece(grounded: bool) -> [u8; 3]
+    ensures { result ≡ comma ∷ (fact_field grounded ++ comma ∷ []) }
 {
-    [b',', texts::on_off(ground), b',']
+    [b',', texts::on_off(grounded), b',']
 }
 
 // The fields of the facts, each with the comma before it.

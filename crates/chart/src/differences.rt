@@ -94,7 +94,7 @@ pub(crate) fn next_with(asked: Asked, fact: Deciding) -> Place
 {
     let from = asked.place;
     let aim = asked.aim;
-    table::moved(from, asked.ground, aim, alone(fact))
+    table::moved(from, asked.grounded, aim, alone(fact))
 }
 
 // The fact that makes a difference there.

@@ -21,7 +21,7 @@ use Rattle.plain.specs.Parts.{two_each, sensor_parts, four_each, sensor_items, o
 use Rattle.plain.proofs.Named.{item_length, rule_length}
 use Rattle.plain.proofs.Sizes.{number_length}
 use Rattle.commands.specs.declared.saving.Reason.{Reason}
-use Rattle.commands.specs.declared.saving.Reason.TheVariants.{Missing, Forbidden, Directory, NoDirectory, TooLong, ReadOnly, Full, Other}
+use Rattle.commands.specs.declared.saving.Reason.TheVariants.{Missing, Forbidden, Directory, NoDirectory, TooLong, ReadOnly, Full, NoText, Other}
 use Rattle.commands.specs.Messages.{reason_words, length_words, fault_words}
 
 -- Each item of an image has a name ..
@@ -59,4 +59,5 @@ reason_fits NoDirectory = omega arith
 reason_fits TooLong = omega arith
 reason_fits ReadOnly = omega arith
 reason_fits Full = omega arith
+reason_fits NoText = omega arith
 reason_fits (Other error) = omega (arith, number_length error, length-append (ascii "error ") (decimal error))

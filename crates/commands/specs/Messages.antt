@@ -10,7 +10,7 @@ use Rattle.image.specs.Images.{size}
 use Rattle.texts.specs.Puts.{PutIfRoom}
 use Rattle.plain.specs.Parts.{item_names, rule_words}
 use Rattle.commands.specs.declared.saving.Reason.{Reason}
-use Rattle.commands.specs.declared.saving.Reason.TheVariants.{Missing, Forbidden, Directory, NoDirectory, TooLong, ReadOnly, Full, Other}
+use Rattle.commands.specs.declared.saving.Reason.TheVariants.{Missing, Forbidden, Directory, NoDirectory, TooLong, ReadOnly, Full, NoText, Other}
 
 -- A piece of text is put at a place of a line if there is room for it, and in either case the place after it lies within the line.
 abbrev pub PutWithin : List ℕ → ℕ → List ℕ → List ℕ → ℕ → Type 0
@@ -35,6 +35,7 @@ reason_words NoDirectory = ascii "a part of its path is no directory"
 reason_words TooLong = ascii "its name is too long"
 reason_words ReadOnly = ascii "the disk is read only"
 reason_words Full = ascii "the disk is full"
+reason_words NoText = ascii "its name is not UTF-8"
 reason_words (Other error) = ascii "error " ++ decimal error
 
 -- The length of neither form: so many bytes were read, and no more than one past the longer.

@@ -6,6 +6,9 @@ ghost use Rattle.commands.specs.Words.{form_size, form_name, converted_by, no_im
 use crate::saving::{HANDOVER, Loaded, ROOM};
 use crate::{messages, saving};
 use image::SIZE;
+use std::fs::Files;
+use std::io::Write;
+use words::Streams;
 
 // The form that is asked for.
 #[derive(Clone, Copy)]
@@ -23,44 +26,58 @@ pub struct Converted {
 
 // `handover new TO FROM` and `handover old TO FROM`: the image that stands at FROM, in the form that is asked for, becomes the file TO, which may
 // be the same one.
-pub fn convert(to: i32, path: &[u8], from: &[u8], form: Form) -> Converted
+pub fn convert<F: Files, R, W: Write, E: Write>(
+    files: &F,
+    streams: &mut Streams<R, W, E>,
+    path: &[u8],
+    from: &[u8],
+    form: Form,
+) -> Converted
     ensures { ConvertedFrom form result }
 {
     let mut bytes = [0u8; ROOM];
-    let loaded = saving::load_told(&HANDOVER, from, &mut bytes);
+    let loaded = saving::load_told(files, &mut streams.errors, &HANDOVER, from, &mut bytes);
     if loaded.taken {
         let n = loaded.read;
         return Converted {
-            saved: keep(to, path, from, &bytes[..n], form),
+            saved: keep(files, streams, path, from, &bytes[..n], form),
             loaded,
         };
     }
-    messages::say(&HANDOVER, path, b"nothing was saved");
+    messages::say(&mut streams.errors, &HANDOVER, path, b"nothing was saved");
     Converted {
         saved: false,
         loaded,
     }
 }
 
-// Puts an image that was taken, converted, at a path, and says on the other descriptor what it is; or says why not. (With room for either form, what
+// Puts an image that was taken, converted, at a path, and says on the output what it is; or says why not. (With room for either form, what
 // was taken is refused by 12 alone.)
-fn keep(to: i32, path: &[u8], from: &[u8], image: &[u8], form: Form) -> bool
+fn keep<F: Files, R, W: Write, E: Write>(
+    files: &F,
+    streams: &mut Streams<R, W, E>,
+    path: &[u8],
+    from: &[u8],
+    image: &[u8],
+    form: Form,
+) -> bool
     ensures { T result → (converted_by form image.now no_image).0 ≡ 0 }
 {
     let mut out = [0u8; SIZE];
     let refusal = in_form(form, image, &mut out);
     if refusal != 0 {
         messages::say(
+            &mut streams.errors,
             &HANDOVER,
             from,
             b"refusal 12: a channel is under suspicion, which the old form cannot bear; an image saved a sample or two later can be converted",
         );
-        messages::say(&HANDOVER, path, b"nothing was saved");
+        messages::say(&mut streams.errors, &HANDOVER, path, b"nothing was saved");
         return false;
     }
     let n = size_of(form);
-    if saving::replace(&HANDOVER, path, &out[..n]) {
-        tell(to, path, from, form);
+    if saving::replace(files, &mut streams.errors, &HANDOVER, path, &out[..n]) {
+        tell(streams, path, from, form);
         return true;
     }
     false
@@ -87,11 +104,21 @@ fn size_of(form: Form) -> usize
 }
 
 // Says what stands at a path now.
-fn tell(to: i32, path: &[u8], from: &[u8], form: Form) {
+fn tell<R, W: Write, E: Write>(
+    streams: &mut Streams<R, W, E>,
+    path: &[u8],
+    from: &[u8],
+    form: Form,
+) {
     let mut out = [0u8; 8512];
     let end = put_told(&mut out, path, from, form);
-    if !words::put(&HANDOVER, to, &out, end) {
-        messages::say(&HANDOVER, path, b"it is saved all the same");
+    if !words::put(streams, &HANDOVER, &out, end) {
+        messages::say(
+            &mut streams.errors,
+            &HANDOVER,
+            path,
+            b"it is saved all the same",
+        );
     }
 }
 

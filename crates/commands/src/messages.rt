@@ -5,32 +5,45 @@ ghost use Rattle.commands.specs.Messages.{PutWithin, of_file, said_of, reason_wo
 
 use crate::saving::Reason;
 use image::Fault;
+use std::io::Write;
 
 // Says this of a file; an empty path is left out.
-pub(crate) fn say(name: &[u8], path: &[u8], what: &[u8]) -> bool
+pub(crate) fn say<E: Write>(errors: &mut E, name: &[u8], path: &[u8], what: &[u8]) -> bool
     ensures { length (said_of path.now what.now) ≤ 4352 → result ≡ is_at_once name.now (said_of path.now what.now) }
 {
     if path.len() == 0 {
-        return words::say(name, what);
+        return words::say(errors, name, what);
     }
     let mut line = [0u8; 4352];
     let end = put_of_file(&mut line, path, what);
-    words::say(name, &line[..end])
+    words::say(errors, name, &line[..end])
 }
 
 // Says of a file what was to be done, and why the system does not do it.
-pub(crate) fn say_reason(name: &[u8], path: &[u8], what: &[u8], reason: Reason) {
+pub(crate) fn say_reason<E: Write>(
+    errors: &mut E,
+    name: &[u8],
+    path: &[u8],
+    what: &[u8],
+    reason: Reason,
+) {
     let mut text = [0u8; 128];
     let end = put_with_reason(&mut text, what, reason);
-    say(name, path, &text[..end]);
+    say(errors, name, path, &text[..end]);
 }
 
 // Says what is wrong with the bytes that were read of a file, if anything is: there were so many.
-pub(crate) fn say_fault(name: &[u8], path: &[u8], fault: Fault, read: usize) {
+pub(crate) fn say_fault<E: Write>(
+    errors: &mut E,
+    name: &[u8],
+    path: &[u8],
+    fault: Fault,
+    read: usize,
+) {
     let mut text = [0u8; 128];
     let end = put_fault(&mut text, fault, read);
     if end != 0 {
-        say(name, path, &text[..end]);
+        say(errors, name, path, &text[..end]);
     }
 }
 
@@ -63,6 +76,7 @@ fn put_reason(text: &mut [u8], at: usize, reason: Reason) -> usize
         Reason::TooLong => texts::put(text, at, b"its name is too long"),
         Reason::ReadOnly => texts::put(text, at, b"the disk is read only"),
         Reason::Full => texts::put(text, at, b"the disk is full"),
+        Reason::NoText => texts::put(text, at, b"its name is not UTF-8"),
         Reason::Other(error) => put_error(text, at, error),
     }
 }

@@ -7,6 +7,8 @@ ghost use Rattle.commands.specs.Loading.{loaded_of, not_read, may_stand};
 
 use crate::{files, messages};
 use controller::State;
+use std::fs::{Files, OpenFile};
+use std::io::{Error, ErrorKind, Read, Write};
 
 // The name that the words of images go by on standard error.
 pub(crate) const HANDOVER: [u8; 8] = *b"handover";
@@ -34,42 +36,49 @@ pub enum Reason {
     TooLong,
     ReadOnly,
     Full,
+    NoText,
     Other(u64),
 }
 
 // Loads the image that has this path through a lent buffer, or says in one line why not.
-pub(crate) fn load(name: &[u8], path: &[u8], buffer: &mut [u8]) -> Loaded
+pub(crate) fn load<F: Files, E: Write>(
+    files: &F,
+    errors: &mut E,
+    name: &[u8],
+    path: &[u8],
+    buffer: &mut [u8],
+) -> Loaded
     ensures { result ≡ loaded_of (take result.read buffer.new) }
 {
     if buffer.len() < ROOM {
         messages::say(
+            errors,
             name,
             path,
             b"refusal 8: the buffer for an image is too short",
         );
         return not_read();
     }
-    let fd = os::open_read(path);
-    if fd < 0 {
-        return unread(name, path, os::errno());
+    match files::load(files, path, buffer) {
+        Ok(n) => take_in(errors, name, path, &buffer[..n]),
+        Err(error) => unread(errors, name, path, &error),
     }
-    let got = files::read(fd, buffer);
-    let error = os::errno();
-    libc::close(fd);
-    if !got.well {
-        return unread(name, path, error);
-    }
-    let n = got.n;
-    take_in(name, path, &buffer[..n])
 }
 
 // The same, and of an image in which every item is 0 a line says so.
-pub(crate) fn load_told(name: &[u8], path: &[u8], buffer: &mut [u8]) -> Loaded
+pub(crate) fn load_told<F: Files, E: Write>(
+    files: &F,
+    errors: &mut E,
+    name: &[u8],
+    path: &[u8],
+    buffer: &mut [u8],
+) -> Loaded
     ensures { result ≡ loaded_of (take result.read buffer.new) }
 {
-    let loaded = load(name, path, buffer);
+    let loaded = load(files, errors, name, path, buffer);
     if loaded.blank {
         messages::say(
+            errors,
             name,
             path,
             b"every item of this image is 0, as a lost write leaves it",
@@ -81,42 +90,74 @@ pub(crate) fn load_told(name: &[u8], path: &[u8], buffer: &mut [u8]) -> Loaded
 // Puts an image at a path: beside what stands there, synced, and then in its place. Where that cannot be it says why in one line, and what
 // stands at the path is as it was. Only an image that is taken is put there, and only where nothing stands, or a file that is empty or has
 // the length of an image of either form.
-pub(crate) fn replace(name: &[u8], path: &[u8], bytes: &[u8]) -> bool
+pub(crate) fn replace<F: Files, E: Write>(
+    files: &F,
+    errors: &mut E,
+    name: &[u8],
+    path: &[u8],
+    bytes: &[u8],
+) -> bool
     ensures { T result → refusal_of bytes.now ≡ 0 }
 {
     let answer = image::load(State::fresh(0), bytes, 0);
     if answer.refusal != 0 {
-        messages::say(name, path, b"nothing was saved: this would be no image");
+        messages::say(
+            errors,
+            name,
+            path,
+            b"nothing was saved: this would be no image",
+        );
         return false;
     }
-    if may_replace(name, path) {
-        return put_there(name, path, bytes);
+    if may_replace(files, errors, name, path) {
+        return put_there(files, errors, name, path, bytes);
     }
     false
 }
 
 // Whether an image may take the place of what stands at a path; where not, one line says why.
-pub(crate) fn may_replace(name: &[u8], path: &[u8]) -> bool {
-    let fd = os::open_read(path);
-    if fd < 0 {
-        return is_free(name, path, os::errno());
+pub(crate) fn may_replace<F: Files, E: Write>(
+    files: &F,
+    errors: &mut E,
+    name: &[u8],
+    path: &[u8],
+) -> bool {
+    match files::open(files, path) {
+        Ok(file) => is_replaceable(errors, name, path, file),
+        Err(error) => is_free(files, errors, name, path, &error),
     }
-    if libc::fsync(fd) != 0 {
-        libc::close(fd);
-        messages::say(name, path, b"nothing was saved: this is no file on a disk");
+}
+
+// The same of a file that stands there.
+fn is_replaceable<T: OpenFile + Read + Drop, E: Write>(
+    errors: &mut E,
+    name: &[u8],
+    path: &[u8],
+    mut file: T,
+) -> bool {
+    if file.sync_all().is_err() {
+        messages::say(
+            errors,
+            name,
+            path,
+            b"nothing was saved: this is no file on a disk",
+        );
         return false;
     }
     let mut bytes = [0u8; ROOM];
-    let got = files::read(fd, &mut bytes);
-    let error = os::errno();
-    libc::close(fd);
-    if !got.well {
-        return not_saved(name, path, error);
+    match files::read(&mut file, &mut bytes) {
+        Ok(n) => is_no_other(errors, name, path, n),
+        Err(error) => not_saved(errors, name, path, &error),
     }
-    if may_stand(got.n) {
+}
+
+// The same of a file of which so many bytes were read.
+fn is_no_other<E: Write>(errors: &mut E, name: &[u8], path: &[u8], n: usize) -> bool {
+    if may_stand(n) {
         return true;
     }
     messages::say(
+        errors,
         name,
         path,
         b"nothing was saved: what stands there is no image",
@@ -125,10 +166,16 @@ pub(crate) fn may_replace(name: &[u8], path: &[u8]) -> bool {
 }
 
 // Nothing was read.
-fn unread(name: &[u8], path: &[u8], error: i32) -> Loaded
+fn unread<E: Write>(errors: &mut E, name: &[u8], path: &[u8], error: &Error) -> Loaded
     ensures { result ≡ not_read }
 {
-    messages::say_reason(name, path, b"it cannot be read: ", files::reason(error));
+    messages::say_reason(
+        errors,
+        name,
+        path,
+        b"it cannot be read: ",
+        files::reason(error),
+    );
     not_read()
 }
 
@@ -145,13 +192,13 @@ fn not_read() -> Loaded
 }
 
 // Loads the bytes that were read, or says what is wrong with them.
-fn take_in(name: &[u8], path: &[u8], bytes: &[u8]) -> Loaded
+fn take_in<E: Write>(errors: &mut E, name: &[u8], path: &[u8], bytes: &[u8]) -> Loaded
     ensures { result ≡ loaded_of bytes.now }
 {
     let answer = image::load(State::fresh(0), bytes, image::last_stamp(bytes));
     let taken = answer.refusal == 0;
     let state = answer.state;
-    messages::say_fault(name, path, image::find_fault(bytes), bytes.len());
+    messages::say_fault(errors, name, path, image::find_fault(bytes), bytes.len());
     Loaded {
         taken,
         blank: taken & image::is_blank(bytes),
@@ -168,50 +215,79 @@ fn may_stand(n: usize) -> bool
 }
 
 // A path that cannot be read is free where nothing stands there, in a directory that there is.
-fn is_free(name: &[u8], path: &[u8], error: i32) -> bool {
-    if (path.len() != 0) & (error == libc::ENOENT) & files::has_directory(path) {
+fn is_free<F: Files, E: Write>(
+    files: &F,
+    errors: &mut E,
+    name: &[u8],
+    path: &[u8],
+    error: &Error,
+) -> bool {
+    let missing = error.kind() == ErrorKind::NotFound;
+    if (path.len() != 0) & missing & files::has_directory(files, path) {
         return true;
     }
-    not_saved(name, path, error)
+    not_saved(errors, name, path, error)
 }
 
 // Says why nothing was saved.
-fn not_saved(name: &[u8], path: &[u8], error: i32) -> bool
+fn not_saved<E: Write>(errors: &mut E, name: &[u8], path: &[u8], error: &Error) -> bool
     ensures { result ≡ false }
 {
-    messages::say_reason(name, path, b"nothing was saved: ", files::reason(error));
+    messages::say_reason(
+        errors,
+        name,
+        path,
+        b"nothing was saved: ",
+        files::reason(error),
+    );
     false
 }
 
 // Writes the bytes into a new file beside the path, and gives that file the path's name.
-fn put_there(name: &[u8], path: &[u8], bytes: &[u8]) -> bool {
+fn put_there<F: Files, E: Write>(
+    files: &F,
+    errors: &mut E,
+    name: &[u8],
+    path: &[u8],
+    bytes: &[u8],
+) -> bool {
     let mut beside = [0u8; 4352];
     let end = files::put_beside(&mut beside, path);
-    move_in(name, path, &mut beside[..end], bytes)
+    move_in(files, errors, name, path, &mut beside[..end], bytes)
 }
 
 // The same, by the name of the new file, which ends in XXXXXX.
-fn move_in(name: &[u8], path: &[u8], beside: &mut [u8], bytes: &[u8]) -> bool {
-    let fd = os::create_temp(beside);
-    if fd < 0 {
-        return not_saved(name, path, os::errno());
+fn move_in<F: Files, E: Write>(
+    files: &F,
+    errors: &mut E,
+    name: &[u8],
+    path: &[u8],
+    beside: &mut [u8],
+    bytes: &[u8],
+) -> bool {
+    if let Err(error) = put_in(files, path, beside, bytes) {
+        return not_saved(errors, name, path, &error);
     }
-    let kept = files::keep(fd, bytes);
-    if !kept.well {
-        os::unlink(beside);
-        return not_saved(name, path, kept.error);
-    }
-    if os::rename(beside, path) != 0 {
-        let error = os::errno();
-        os::unlink(beside);
-        return not_saved(name, path, error);
-    }
-    if !files::sync_directory(path) {
+    if !files::sync_directory(files, path) {
         messages::say(
+            errors,
             name,
             path,
             b"it is saved, but its directory could not be synced",
         );
     }
     true
+}
+
+// The same; where it cannot be, the new file is gone.
+fn put_in<F: Files>(files: &F, path: &[u8], beside: &mut [u8], bytes: &[u8]) -> Result<(), Error> {
+    let file = files::create_beside(files, beside)?;
+    let moved = match files::keep(file, bytes) {
+        Ok(()) => files::rename(files, beside, path),
+        Err(error) => Err(error),
+    };
+    if moved.is_err() {
+        let _ = files::remove(files, beside);
+    }
+    moved
 }

@@ -1,5 +1,5 @@
 // What the words that the program `desk` is given ask for:
-//   waves [IMAGE]            a trace on the first descriptor, its value change dump on the second (request K2); with an image (request K3), that of a
+//   waves [IMAGE]            a trace on the input, its value change dump on the output (request K2); with an image (request K3), that of a
 //                            lesson that goes on from it
 //   sheet                    a dump, its values as CSV (request K2)
 //   handover save TO [FROM]  a trace, from a fresh start or from the image FROM; the image of its last state becomes the file TO (request K3)
@@ -17,33 +17,37 @@ ghost use Rattle.commands.specs.Words.{is_first_word};
 use crate::conversions::Form;
 use crate::{conversions, images, walls};
 use running::traces;
+use std::fs::Files;
+use std::io::{Read, Write};
+use words::Streams;
 
 // Does what the words ask for, and answers whether they are such a use. They are counted with the program's own name, as the system does; there
 // are at most four behind it.
-pub fn by_words(
+pub fn by_words<F: Files, R: Read, W: Write, E: Write>(
+    files: &F,
+    streams: &mut Streams<R, W, E>,
     count: usize,
     first: &[u8],
     second: &[u8],
     third: &[u8],
     fourth: &[u8],
-    from: i32,
-    to: i32,
 ) -> bool
     ensures { T result → T (is_first_word first.now) }
 {
     if is(first, b"waves") {
-        return waves(count, second, from, to);
+        return waves(files, streams, count, second);
     }
     if is(first, b"sheet") {
-        return sheet(count, from, to);
+        return sheet(streams, count);
     }
     if is(first, b"handover") {
-        return handover(count, second, third, fourth, from, to);
+        return handover(files, streams, count, second, third, fourth);
     }
     if is(first, b"wall") {
-        return wall(count, second, to);
+        return wall(streams, count, second);
     }
     words::say(
+        &mut streams.errors,
         b"desk",
         b"use: desk waves, desk sheet, desk handover or desk wall, each with its words",
     );
@@ -57,70 +61,84 @@ fn is(word: &[u8], text: &[u8]) -> bool
     check::same(word, text)
 }
 
-fn waves(count: usize, image: &[u8], from: i32, to: i32) -> bool {
+fn waves<F: Files, R: Read, W: Write, E: Write>(
+    files: &F,
+    streams: &mut Streams<R, W, E>,
+    count: usize,
+    image: &[u8],
+) -> bool {
     if count == 2 {
-        traces::waves(from, to);
+        traces::waves(streams);
         return true;
     }
     if count == 3 {
-        images::waves(from, to, image);
+        images::waves(files, streams, image);
         return true;
     }
-    words::say(b"waves", b"use: waves [IMAGE] < TRACE");
+    words::say(&mut streams.errors, b"waves", b"use: waves [IMAGE] < TRACE");
     false
 }
 
-fn sheet(count: usize, from: i32, to: i32) -> bool {
+fn sheet<R: Read, W: Write, E: Write>(streams: &mut Streams<R, W, E>, count: usize) -> bool {
     if count == 2 {
-        traces::sheet(from, to);
+        traces::sheet(streams);
         return true;
     }
-    words::say(b"sheet", b"use: sheet < DUMP");
+    words::say(&mut streams.errors, b"sheet", b"use: sheet < DUMP");
     false
 }
 
-fn handover(count: usize, word: &[u8], path: &[u8], other: &[u8], from: i32, to: i32) -> bool {
+fn handover<F: Files, R: Read, W: Write, E: Write>(
+    files: &F,
+    streams: &mut Streams<R, W, E>,
+    count: usize,
+    word: &[u8],
+    path: &[u8],
+    other: &[u8],
+) -> bool {
     if (count == 4) & is(word, b"save") {
-        images::save(from, to, path);
+        images::save(files, streams, path);
         return true;
     }
     if (count == 5) & is(word, b"save") {
-        images::save_onward(from, to, path, other);
+        images::save_onward(files, streams, path, other);
         return true;
     }
     if (count == 5) & is(word, b"new") {
-        conversions::convert(to, path, other, Form::New);
+        conversions::convert(files, streams, path, other, Form::New);
         return true;
     }
     if (count == 5) & is(word, b"old") {
-        conversions::convert(to, path, other, Form::Old);
+        conversions::convert(files, streams, path, other, Form::Old);
         return true;
     }
     if (count == 4) & is(word, b"resume") {
-        images::resume(from, to, path);
+        images::resume(files, streams, path);
         return true;
     }
     if (count == 4) & is(word, b"show") {
-        images::show(to, path);
+        images::show(files, streams, path);
         return true;
     }
     words::say(
+        &mut streams.errors,
         b"handover",
         b"use: save TO [FROM] < TRACE, resume IMAGE < TRACE, show IMAGE, new TO FROM, or old TO FROM",
     );
     false
 }
 
-fn wall(count: usize, word: &[u8], to: i32) -> bool {
+fn wall<R, W: Write, E: Write>(streams: &mut Streams<R, W, E>, count: usize, word: &[u8]) -> bool {
     if (count == 3) & is(word, b"csv") {
-        walls::csv(to);
+        walls::csv(streams);
         return true;
     }
     if (count == 3) & is(word, b"page") {
-        walls::page(to);
+        walls::page(streams);
         return true;
     }
     words::say(
+        &mut streams.errors,
         b"wall",
         b"use: wall csv > FILE.csv, or wall page > FILE.svg",
     );

@@ -4,30 +4,32 @@ ghost use Rattle.chart.specs.Csv.{csv_text};
 ghost use Rattle.chart.specs.Page.{page_text};
 
 use crate::images::Shown;
+use std::io::Write;
+use words::Streams;
 
 // The name that the program goes by on standard error.
 const NAME: [u8; 4] = *b"wall";
 
 // `wall csv`: the 1,024 entries as CSV.
-pub fn csv(to: i32) -> Shown
+pub fn csv<R, W: Write, E: Write>(streams: &mut Streams<R, W, E>) -> Shown
     ensures { result.put ≡ length csv_text }
 {
     let mut out = room_for_csv();
     let put = chart::csv::put_table(&mut out, 0);
     Shown {
-        well: words::put(&NAME, to, &out, put),
+        well: words::put(streams, &NAME, &out, put),
         put,
     }
 }
 
 // `wall page`: a page to print.
-pub fn page(to: i32) -> Shown
+pub fn page<R, W: Write, E: Write>(streams: &mut Streams<R, W, E>) -> Shown
     ensures { result.put ≡ length page_text }
 {
-    let mut out = io::large_buffer();
+    let mut out = words::rooms::large();
     let put = chart::page::put_page(&mut out, 0);
     Shown {
-        well: words::put(&NAME, to, &out, put),
+        well: words::put(streams, &NAME, &out, put),
         put,
     }
 }

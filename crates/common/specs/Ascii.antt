@@ -1,7 +1,6 @@
 -- Words written as words: the bytes of a text, and the texts of several fields as one.
 -- Assumes nothing.
 use Rattle.std.specs.Prelude.{List, [], ◌∷◌, ◌++◌, ℕ}
-use Prim.Native.String
 use Prim.Native.String.{String}
 use Prim.Native.Char.{code}
 

@@ -85,8 +85,8 @@ impl Core {
     }
 
     // At most one move, and none with an anomaly.
-    fn sequence(self, ground: bool, aim: Aim, seen: Seen) -> Self
-        ensures { result ≡ core_sequence (aim_in_force ground aim self.place.gears) seen self }
+    fn sequence(self, grounded: bool, aim: Aim, seen: Seen) -> Self
+        ensures { result ≡ core_sequence (aim_in_force grounded aim self.place.gears) seen self }
     {
         if self.anomaly() {
             return self;
@@ -95,7 +95,7 @@ impl Core {
         Core {
             orders,
             since: self.since,
-            place: table::moved(self.place, ground, aim, seen),
+            place: table::moved(self.place, grounded, aim, seen),
             cause: self.cause,
         }
     }
@@ -172,12 +172,12 @@ impl State {
         ensures { result ≡ sequence_stage self }
     {
         let voters = self.voters;
-        let ground = votes::on_ground(voters);
+        let grounded = votes::on_ground(voters);
         let aim = votes::aim(voters);
         State {
             stamp: self.stamp,
             voters,
-            core: self.core.sequence(ground, aim, votes::seen(voters)),
+            core: self.core.sequence(grounded, aim, votes::seen(voters)),
         }
     }
 

@@ -2,24 +2,29 @@
 // `bin/sheet`, `bin/handover` and `bin/wall` give it the first one.
 #![tactic(auto)]
 
-use libc::{STDIN_FILENO, STDOUT_FILENO};
+use words::{Streams, arguments, rooms};
 
-fn main() {
-    let mut first = io::buffer();
-    let mut second = io::large_buffer();
-    let mut third = io::large_buffer();
-    let mut fourth = io::large_buffer();
-    let a = os::arg(1, &mut first);
-    let b = os::arg(2, &mut second);
-    let c = os::arg(3, &mut third);
-    let d = os::arg(4, &mut fourth);
+fn main(rt: HostRuntime) {
+    let mut first = rooms::small();
+    let mut second = rooms::large();
+    let mut third = rooms::large();
+    let mut fourth = rooms::large();
+    let a = arguments::word(&rt, 1, &mut first);
+    let b = arguments::word(&rt, 2, &mut second);
+    let c = arguments::word(&rt, 3, &mut third);
+    let d = arguments::word(&rt, 4, &mut fourth);
+    let mut streams = Streams {
+        input: rt.stdin(),
+        output: rt.stdout(),
+        errors: rt.stderr(),
+    };
     commands::uses::by_words(
-        os::arg_count(),
+        &rt,
+        &mut streams,
+        arguments::count(&rt),
         &first[..a],
         &second[..b],
         &third[..c],
         &fourth[..d],
-        STDIN_FILENO,
-        STDOUT_FILENO,
     );
 }

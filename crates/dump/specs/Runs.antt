@@ -1,6 +1,6 @@
 -- A whole dump by parts, as a program writes it: its head, and then one call for each moment.
 -- Assumes nothing.
-use Rattle.std.specs.Prelude.{ℕ, ◌+◌, Bool, cond, List, [], ◌∷◌, ◌++◌, ◌≡◌, eqb, length, take}
+use Rattle.std.specs.Prelude.{ℕ, Bool, cond, List, [], ◌∷◌, ◌++◌, ◌≡◌, eqb, length, take}
 use Rattle.dump.specs.declared.Dump.{Dump}
 use Rattle.dump.specs.declared.Wrote.{Wrote}
 use Rattle.dump.specs.Wires.{wires}

@@ -2,7 +2,7 @@
 -- Assumes nothing.
 use Rattle.std.proofs.Common.{◌≡◌, ℕ, ◌<◌, ◌≤◌, List, length, sym, ap, subst, arith, le-ltb, lt-ltb}
 use Rattle.reading.specs.declared.Next.{Next}
-use Rattle.reading.specs.Runs.{Answer, calls, lent, take_by, finish_by}
+use Rattle.reading.specs.Runs.{Answer, calls, lent}
 use Rattle.reading.proofs.Lending.{take_lies, finish_lies}
 use Rattle.dump.specs.declared.Dump.{Dump}
 use Rattle.dumping.specs.declared.Waves.{Waves}

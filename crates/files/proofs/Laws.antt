@@ -140,7 +140,7 @@ module _ (state : State) (reached : Reached state) (input : List ℕ) where
   every_row_stands_on_its_wheels =
       each Sound StandsAt
       (λ t r. row_between (λ before after. gears_of before ≡ Extended → T (ground_of after) → Stands before after)
-      (λ s from extended ground. core_stays s s refl extended) (λ s stamp from extended ground. core_stays s (started_at stamp s) refl extended)
+      (λ s from extended grounded. core_stays s s refl extended) (λ s stamp from extended grounded. core_stays s (started_at stamp s) refl extended)
       (λ s stamp bytes from. stands_on_its_wheels s (stamp, bytes))
       t r.right r.from)
       (told state input) sound

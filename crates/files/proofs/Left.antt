@@ -19,7 +19,7 @@ use Rattle.reading.specs.Rows.{next_due, line_of, ends_at, shown_row, trace_row,
 use Rattle.reading.specs.Whole.{read_to, is_answered}
 use Rattle.handing.specs.Handing.{line_before, last_line}
 use Rattle.files.specs.Told.{Told, told_of, told_from, told}
-use Rattle.files.specs.Left.{left_of, last_answered, line_or, state_or, OfLastAnswered}
+use Rattle.files.specs.Left.{last_answered, line_or, state_or, OfLastAnswered}
 use Rattle.files.proofs.EachRow.{by_header, Behind, behind, read_at, OnLine, next_line, next_on_its_line}
 use Rattle.files.proofs.EachRow.Behind.{reads, ends}
 

@@ -11,7 +11,7 @@ use borrow.Author.Tests.{ne_eqb, ltb-true, ltb-false, le-leb, lt-leb, leb-false}
 use lib.Dec.{ltb, leb}
 use lib.ListN.{length}
 use Rattle.common.specs.Answers.{refuses}
-use Rattle.common.specs.Ascii.{ended, joined_by_commas}
+use Rattle.common.specs.Ascii.{joined_by_commas}
 use Rattle.common.specs.Decimal.{decimal}
 use Rattle.lines.specs.Rows.{rows_of}
 use Rattle.lines.proofs.Steps.{either}

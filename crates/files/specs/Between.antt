@@ -31,7 +31,7 @@ place_in x = place x.doors x.gears
 
 -- A row shows red, or doors CLOSED and gears at the aim; request K7: or with the handle up on ground doors CLOSED and gears EXTENDED.
 abbrev pub looks_settled : Bool → Aim → Shown → Bool
-looks_settled ground aim x = x.lights.red || is_home aim (place_in x) || (ground && is_up aim && is_home ToExtended (place_in x))
+looks_settled grounded aim x = x.lights.red || is_home aim (place_in x) || (grounded && is_up aim && is_home ToExtended (place_in x))
 
 -- A row's state looks so, with the handle so (true for down).
 abbrev pub row_looks_settled : Bool → State → Bool

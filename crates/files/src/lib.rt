@@ -1,3 +1,5 @@
+#![tactic(auto)]
+
 // Theorems over whole files, where the laws over every reached state and the runs from file to file meet; no code. What is claimed is
 // written with specs/; the theorems are proofs/. From any controller, whatever the bytes of the input are: Told, Tables: a file is the
 // output header and what is told of each row of the input. EachRow, PerRow: the number of a row is its place, its code is one of document

@@ -4,7 +4,7 @@ use Prim.Native.Nat.{ℕ, zero, suc, ◌+◌, ◌*◌, ◌<◌, ◌≤◌}
 use native.Mathlib.Omega.{arith}
 use mathlib.Core.Bool.{Bool, true, false, cond}
 use mathlib.Core.List.{List, ◌++◌, append-nil}
-use mathlib.Core.Logic.◌⊎◌.{inl, inr}
+use mathlib.Core.Logic.◌⊎◌.{inl}
 use mathlib.Core.Path.{◌≡◌, sym, ap, ◌∙◌}
 use lib.Dec.{eqb, lit<}
 use lib.ListN.{length, get_or, take, drop, replicate, drop_of_length-le}

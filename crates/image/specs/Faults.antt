@@ -13,8 +13,8 @@ use Rattle.image.specs.Images.{size, new_items, loaded_at}
 -- The place of the first item that is out of its range, counted from 0: so many stand before it. Where none is, how many there are.
 unfoldable pub first_out : List ℕ → List ℕ → ℕ
 first_out [] items = 0
-first_out (top ∷ tops) [] = 0
-first_out (top ∷ tops) (item ∷ items) = cond (leb item top) (suc (first_out tops items)) 0
+first_out (top ∷ more) [] = 0
+first_out (top ∷ more) (item ∷ items) = cond (leb item top) (suc (first_out more items)) 0
 
 -- The place of the first rule that is broken, in the order of Rules.antt, counted likewise.
 unfoldable pub first_broken : List Bool → ℕ

@@ -101,8 +101,8 @@ tops = (2 ^ 32 - 1) ∷ (sensors_tops sensor_count ++ core_tops)
 unfoldable pub within : List ℕ → List ℕ → Bool
 within [] [] = true
 within [] (item ∷ items) = false
-within (top ∷ tops) [] = false
-within (top ∷ tops) (item ∷ items) = leb item top && within tops items
+within (top ∷ more) [] = false
+within (top ∷ more) (item ∷ items) = leb item top && within more items
 
 -- ---- The controller that items are of
 

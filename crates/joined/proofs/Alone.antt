@@ -5,7 +5,6 @@ use Rattle.std.proofs.Common.{◌≡◌, ℕ, Bool, true, false, cond, eqb, ltb,
 use mathlib.Core.Path.{subst⁻¹}
 use borrow.Author.Tests.{eqb-false}
 use Rattle.controller.specs.declared.State.{State}
-use Rattle.controller.specs.declared.Answer.{Answer}
 use Rattle.controller.specs.Stages.{elapsed_of, accepted}
 use Rattle.controller.specs.Steps.{some_over_one, refusal_at as controller_refusal_at, step_at as controller_step_at}
 use Rattle.controller.specs.Shows.{general_ev}

@@ -69,7 +69,7 @@ second doors Retracting holds closed = absurd (closed_is_not_open doors closed (
 of_the_model_have_open : {p : Place} → OfTheGroundModel p → T (moving_have_open p)
 unfolding moving_have_open
 of_the_model_have_open initially = tt
-of_the_model_have_open (and_then before ground handle move) = keeps_open (one_move move) (of_the_model_have_open before)
+of_the_model_have_open (and_then before grounded handle move) = keeps_open (one_move move) (of_the_model_have_open before)
 
 pub the_model_keeps_its_invariants : (p : Place) → OfTheGroundModel p → FirstInvariant p × SecondInvariant p
 the_model_keeps_its_invariants p of =

@@ -56,17 +56,17 @@ use Rattle.common.proofs.Tests.{so}
 
 -- A move that waits for a sensor is made or not: doors or gears, the other staying.
 once :
-    {ground : Bool} {handle : HandleStatus} {Part : Type 0} (whole : Part → Place) {from to : Part} (seen : Bool) →
-    Move ground handle (whole from) (whole to) →
-    OneMoveOrNone ground handle (whole from) (whole (cond seen to from))
+    {grounded : Bool} {handle : HandleStatus} {Part : Type 0} (whole : Part → Place) {from to : Part} (seen : Bool) →
+    Move grounded handle (whole from) (whole to) →
+    OneMoveOrNone grounded handle (whole from) (whole (cond seen to from))
 once whole true move = one_move move
 once whole false move = no_move
 
 -- ---- Gears at the aim, or as if
 
-module _ (ground : Bool) (handle : HandleStatus) (gears : Gears)
-    (close : (from to : Doors) → CloseDoor from to → Move ground handle (place from gears) (place to gears)) where
-  home : (doors : Doors) (seen : Seen) → OneMoveOrNone ground handle (place doors gears) (doors_home (place doors gears) seen)
+module _ (grounded : Bool) (handle : HandleStatus) (gears : Gears)
+    (close : (from to : Doors) → CloseDoor from to → Move grounded handle (place from gears) (place to gears)) where
+  home : (doors : Doors) (seen : Seen) → OneMoveOrNone grounded handle (place doors gears) (doors_home (place doors gears) seen)
   unfolding doors_home
   home Closed seen = no_move
   home Opening seen = one_move (close _ _ opening_to_closing)
@@ -79,32 +79,32 @@ not_at : (aim : Aim) (gears to : Gears) → T (at_aim aim to) → T (not (at_aim
 not_at aim gears to there away e = T_not (at_aim aim gears) away (rw e there)
 
 -- How doors that are not OPEN leave.
-record Leave (ground : Bool) (handle : HandleStatus) (gears : Gears) : Type 0 where
-  closed : Move ground handle (place Closed gears) (place Opening gears)
-  opening : Move ground handle (place Opening gears) (place Open gears)
-  closing : Move ground handle (place Closing gears) (place Opening gears)
+record Leave (grounded : Bool) (handle : HandleStatus) (gears : Gears) : Type 0 where
+  closed : Move grounded handle (place Closed gears) (place Opening gears)
+  opening : Move grounded handle (place Opening gears) (place Open gears)
+  closing : Move grounded handle (place Closing gears) (place Opening gears)
 
 out :
-    (ground : Bool) (handle : HandleStatus) (aim : Aim) (gears : Gears) →
-    Leave ground handle gears →
-    ((seen : Seen) → OneMoveOrNone ground handle (place Open gears) (place Open (next_gears aim gears seen))) →
+    (grounded : Bool) (handle : HandleStatus) (aim : Aim) (gears : Gears) →
+    Leave grounded handle gears →
+    ((seen : Seen) → OneMoveOrNone grounded handle (place Open gears) (place Open (next_gears aim gears seen))) →
     (doors : Doors) (seen : Seen) →
-    OneMoveOrNone ground handle (place doors gears) (doors_to_gears aim (place doors gears) seen)
+    OneMoveOrNone grounded handle (place doors gears) (doors_to_gears aim (place doors gears) seen)
 unfolding doors_to_gears
-out ground handle aim gears leave go Closed seen = one_move leave.closed
-out ground handle aim gears leave go Opening seen = once (λ (doors : Doors). place doors gears) seen.opened leave.opening
-out ground handle aim gears leave go Open seen = go seen
-out ground handle aim gears leave go Closing seen = one_move leave.closing
+out grounded handle aim gears leave go Closed seen = one_move leave.closed
+out grounded handle aim gears leave go Opening seen = once (λ (doors : Doors). place doors gears) seen.opened leave.opening
+out grounded handle aim gears leave go Open seen = go seen
+out grounded handle aim gears leave go Closing seen = one_move leave.closing
 
 -- ---- The handle up: as printed, but for gears EXTENDED on ground
 
 -- Gears that are not EXTENDED do not stand on their wheels.
-away_from_extended : (ground : Bool) (gears : Gears) → T (not (at_aim ToExtended gears)) → ¬ OnItsWheels ground UP gears
+away_from_extended : (grounded : Bool) (gears : Gears) → T (not (at_aim ToExtended gears)) → ¬ OnItsWheels grounded UP gears
 unfolding at_aim
-away_from_extended ground gears h on = not_at ToExtended gears Extended tt h on.2
+away_from_extended grounded gears h on = not_at ToExtended gears Extended tt h on.2
 
-module _ (ground : Bool) (gears : Gears) (free : ¬ OnItsWheels ground UP gears) where
-  leave_up : T (not (at_aim ToRetracted gears)) → Leave ground UP gears
+module _ (grounded : Bool) (gears : Gears) (free : ¬ OnItsWheels grounded UP gears) where
+  leave_up : T (not (at_aim ToRetracted gears)) → Leave grounded UP gears
   unfolding at_aim
   leave_up h =
       let away = not_at ToRetracted gears Retracted tt h in
@@ -115,23 +115,23 @@ module _ (ground : Bool) (gears : Gears) (free : ¬ OnItsWheels ground UP gears)
       }
 
 up :
-    (ground : Bool) (gears : Gears) →
-    ¬ OnItsWheels ground UP gears →
+    (grounded : Bool) (gears : Gears) →
+    ¬ OnItsWheels grounded UP gears →
     (doors : Doors) (seen : Seen) →
-    OneMoveOrNone ground UP (place doors gears) (move_of ToRetracted (place doors gears) seen)
+    OneMoveOrNone grounded UP (place doors gears) (move_of ToRetracted (place doors gears) seen)
 unfolding move_of at_aim next_gears
-up ground Retracted free = home ground UP Retracted (λ from to close. printed free (retracts (retraction_else close)))
-up ground Extending free =
-    out ground UP ToRetracted Extending (leave_up ground Extending free tt) (λ seen. one_move (printed free (retracts retraction_extending)))
-up ground Extended free =
-    out ground UP ToRetracted Extended (leave_up ground Extended free tt) (λ seen. one_move (printed free (retracts retraction_extended)))
-up ground Retracting free =
-    out ground UP ToRetracted Retracting (leave_up ground Retracting free tt)
+up grounded Retracted free = home grounded UP Retracted (λ from to close. printed free (retracts (retraction_else close)))
+up grounded Extending free =
+    out grounded UP ToRetracted Extending (leave_up grounded Extending free tt) (λ seen. one_move (printed free (retracts retraction_extending)))
+up grounded Extended free =
+    out grounded UP ToRetracted Extended (leave_up grounded Extended free tt) (λ seen. one_move (printed free (retracts retraction_extended)))
+up grounded Retracting free =
+    out grounded UP ToRetracted Retracting (leave_up grounded Retracting free tt)
     (λ seen. once (place Open) seen.retracted (printed free (retracts retraction_retracting)))
 
 up_in_force :
-    (ground : Bool) (gears : Gears) (doors : Doors) (seen : Seen) →
-    OneMoveOrNone ground UP (place doors gears) (move_on ground ToRetracted (place doors gears) seen)
+    (grounded : Bool) (gears : Gears) (doors : Doors) (seen : Seen) →
+    OneMoveOrNone grounded UP (place doors gears) (move_on grounded ToRetracted (place doors gears) seen)
 unfolding aim_in_force move_of at_aim
 up_in_force false gears = up false gears (λ on. on.0)
 up_in_force true Retracted = up true Retracted (away_from_extended true Retracted tt)
@@ -145,49 +145,49 @@ abbrev says_down : HandleStatus → Bool
 says_down UP = false
 says_down DOWN = true
 
-not_up : (ground : Bool) (gears : Gears) → ¬ OnItsWheels ground DOWN gears
-not_up ground gears on = subst (λ (handle : HandleStatus). T (says_down handle)) on.1 tt
+not_up : (grounded : Bool) (gears : Gears) → ¬ OnItsWheels grounded DOWN gears
+not_up grounded gears on = subst (λ (handle : HandleStatus). T (says_down handle)) on.1 tt
 
-leave_down : (ground : Bool) (gears : Gears) → T (not (at_aim ToExtended gears)) → Leave ground DOWN gears
+leave_down : (grounded : Bool) (gears : Gears) → T (not (at_aim ToExtended gears)) → Leave grounded DOWN gears
 unfolding at_aim
-leave_down ground gears h =
+leave_down grounded gears h =
     let away = not_at ToExtended gears Extended tt h in
-    let free = not_up ground gears in
+    let free = not_up grounded gears in
     record {
       closed = printed free (outgoes (outgoing_closed away));
       opening = printed free (outgoes (outgoing_opening away));
       closing = added_closing away;
     }
 
-down : (ground : Bool) (gears : Gears) (doors : Doors) (seen : Seen) → OneMoveOrNone ground DOWN (place doors gears) (move_of ToExtended (place doors gears) seen)
+down : (grounded : Bool) (gears : Gears) (doors : Doors) (seen : Seen) → OneMoveOrNone grounded DOWN (place doors gears) (move_of ToExtended (place doors gears) seen)
 unfolding move_of at_aim next_gears
-down ground Retracted =
-    out ground DOWN ToExtended Retracted (leave_down ground Retracted tt) (λ seen. one_move (printed (not_up ground Retracted) (outgoes outgoing_retracted)))
-down ground Extending =
-    out ground DOWN ToExtended Extending (leave_down ground Extending tt)
-    (λ seen. once (place Open) seen.extended (printed (not_up ground Extending) (outgoes outgoing_extending)))
-down ground Extended = home ground DOWN Extended (λ from to close. printed (not_up ground Extended) (outgoes (outgoing_else close)))
-down ground Retracting =
-    out ground DOWN ToExtended Retracting (leave_down ground Retracting tt) (λ seen. one_move (printed (not_up ground Retracting) (outgoes outgoing_retracting)))
+down grounded Retracted =
+    out grounded DOWN ToExtended Retracted (leave_down grounded Retracted tt) (λ seen. one_move (printed (not_up grounded Retracted) (outgoes outgoing_retracted)))
+down grounded Extending =
+    out grounded DOWN ToExtended Extending (leave_down grounded Extending tt)
+    (λ seen. once (place Open) seen.extended (printed (not_up grounded Extending) (outgoes outgoing_extending)))
+down grounded Extended = home grounded DOWN Extended (λ from to close. printed (not_up grounded Extended) (outgoes (outgoing_else close)))
+down grounded Retracting =
+    out grounded DOWN ToExtended Retracting (leave_down grounded Retracting tt) (λ seen. one_move (printed (not_up grounded Retracting) (outgoes outgoing_retracting)))
 
 -- ---- The sequence's rule, by ground and the voted handle
 
-move_of_the_model : (ground is_down : Bool) (p : Place) (seen : Seen) → OneMoveOrNone ground (status_of is_down) p (move_on ground (aim_of is_down) p seen)
+move_of_the_model : (grounded is_down : Bool) (p : Place) (seen : Seen) → OneMoveOrNone grounded (status_of is_down) p (move_on grounded (aim_of is_down) p seen)
 unfolding aim_in_force
 move_of_the_model true true p = down true p.gears p.doors
 move_of_the_model false true p = down false p.gears p.doors
-move_of_the_model ground false p = up_in_force ground p.gears p.doors
+move_of_the_model grounded false p = up_in_force grounded p.gears p.doors
 
 -- With an anomaly nothing moves.
 pub unless_red :
-    (red ground is_down : Bool) (p : Place) (seen : Seen) →
-    OneMoveOrNone ground (status_of is_down) p (cond red p (move_on ground (aim_of is_down) p seen))
-unless_red true ground is_down p seen = no_move
-unless_red false ground is_down p seen = move_of_the_model ground is_down p seen
+    (red grounded is_down : Bool) (p : Place) (seen : Seen) →
+    OneMoveOrNone grounded (status_of is_down) p (cond red p (move_on grounded (aim_of is_down) p seen))
+unless_red true grounded is_down p seen = no_move
+unless_red false grounded is_down p seen = move_of_the_model grounded is_down p seen
 
 -- ---- Moving gears have doors OPEN
 
-move_keeps_open : {ground : Bool} {handle : HandleStatus} {p q : Place} → Move ground handle p q → T (moving_have_open p) → T (moving_have_open q)
+move_keeps_open : {grounded : Bool} {handle : HandleStatus} {p q : Place} → Move grounded handle p q → T (moving_have_open p) → T (moving_have_open q)
 unfolding moving_have_open
 move_keeps_open (printed free (retracts (retraction_closed away))) h = h
 move_keeps_open (printed free (retracts (retraction_closing away))) h = h
@@ -205,14 +205,14 @@ move_keeps_open (printed free (outgoes (outgoing_else close))) h = tt
 move_keeps_open (added_closing away) h = h
 move_keeps_open (added_on_ground close) h = tt
 
-pub keeps_open : {ground : Bool} {handle : HandleStatus} {p q : Place} → OneMoveOrNone ground handle p q → T (moving_have_open p) → T (moving_have_open q)
+pub keeps_open : {grounded : Bool} {handle : HandleStatus} {p q : Place} → OneMoveOrNone grounded handle p q → T (moving_have_open p) → T (moving_have_open q)
 keeps_open (one_move move) h = move_keeps_open move h
 keeps_open no_move h = h
 
 -- ---- Every such place is one of the ground model: the sequence comes there in the air, with the handle so at each move and all seen.
 
-further : {ground : Bool} {handle : HandleStatus} {p q : Place} → OfTheGroundModel p → OneMoveOrNone ground handle p q → OfTheGroundModel q
-further so (one_move {ground = ground} {handle = handle} move) = and_then so ground handle move
+further : {grounded : Bool} {handle : HandleStatus} {p q : Place} → OfTheGroundModel p → OneMoveOrNone grounded handle p q → OfTheGroundModel q
+further so (one_move {grounded = grounded} {handle = handle} move) = and_then so grounded handle move
 further so no_move = so
 
 -- The place after these moves, the last one first.

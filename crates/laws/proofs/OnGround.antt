@@ -44,9 +44,9 @@ use Rattle.laws.proofs.Ground.{step_follows}
 -- ---- The rule by the request's words
 
 by_gears :
-    (ground : Bool) (aim : Aim) (doors : Doors) (gears : Gears) (seen : Seen) →
-    move_on ground aim (place doors gears) seen
-    ≡ cond (as_if_at_aim ground aim gears) (doors_home (place doors gears) seen) (doors_to_gears aim (place doors gears) seen)
+    (grounded : Bool) (aim : Aim) (doors : Doors) (gears : Gears) (seen : Seen) →
+    move_on grounded aim (place doors gears) seen
+    ≡ cond (as_if_at_aim grounded aim gears) (doors_home (place doors gears) seen) (doors_to_gears aim (place doors gears) seen)
 unfolding aim_in_force as_if_at_aim move_of at_aim
 by_gears true ToRetracted doors Retracted seen = refl
 by_gears true ToRetracted doors Extending seen = refl
@@ -66,7 +66,7 @@ by_gears false ToExtended doors Extended seen = refl
 by_gears false ToExtended doors Retracting seen = refl
 
 pub acts_as_if_at_the_aim : ActsAsIfAtTheAim
-acts_as_if_at_the_aim ground aim p seen = by_gears ground aim p.doors p.gears seen
+acts_as_if_at_the_aim grounded aim p seen = by_gears grounded aim p.doors p.gears seen
 
 -- ---- The ground model, on ground
 
@@ -108,13 +108,13 @@ outgoing_holds outgoing_retracting e = absurd (not_extended Retracting tt e)
 outgoing_holds (outgoing_else close) e = close_holds close
 
 -- On ground the model has no move that takes EXTENDED gears away or opens doors.
-pub the_model_stands : {ground : Bool} {handle : HandleStatus} {p q : Place} → T ground → Move ground handle p q → p.gears ≡ Extended → PlaceStands p q
+pub the_model_stands : {grounded : Bool} {handle : HandleStatus} {p q : Place} → T grounded → Move grounded handle p q → p.gears ≡ Extended → PlaceStands p q
 the_model_stands on (printed free (retracts move)) e = absurd (free (on, refl, e))
 the_model_stands on (printed free (outgoes move)) e = outgoing_holds move e
 the_model_stands on (added_closing away) e = absurd (away e)
 the_model_stands on (added_on_ground close) e = close_holds close
 
-holds : {ground : Bool} {handle : HandleStatus} {p q : Place} → T ground → OneMoveOrNone ground handle p q → p.gears ≡ Extended → PlaceStands p q
+holds : {grounded : Bool} {handle : HandleStatus} {p q : Place} → T grounded → OneMoveOrNone grounded handle p q → p.gears ≡ Extended → PlaceStands p q
 holds on (one_move move) e = the_model_stands on move e
 holds on no_move e = record { gears_stay = e; not_opening = λ same. same; not_open = λ same. same }
 
@@ -133,6 +133,6 @@ rests s stamp bytes =
     (λ e on. on)
 
 pub stands_on_its_wheels : (s : State) → StandsOnItsWheels s
-stands_on_its_wheels s r extended ground =
-    let placed = holds ground (step_follows s r.0 r.1) extended in
+stands_on_its_wheels s r extended grounded =
+    let placed = holds grounded (step_follows s r.0 r.1) extended in
     record { placed = placed; not_started = rests s r.0 r.1 placed.gears_stay }

@@ -20,7 +20,6 @@ use Rattle.image.specs.Conditions.{
   AgesTo60000,
   CausesTo13,
 }
-use Rattle.laws.specs.Reached.{Reached}
 use Rattle.laws.specs.Laws.{
   Always,
   OppositesNeverTogether,

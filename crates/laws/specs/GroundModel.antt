@@ -63,22 +63,22 @@ pub data PrintedMove : HandleStatus → Place → Place → Type 0 where
 
 -- Request K7: "With the handle up, gears EXTENDED and any absorber voted on ground".
 abbrev pub OnItsWheels : Bool → HandleStatus → Gears → Type 0
-OnItsWheels ground handle gears = T ground × (handle ≡ UP) × (gears ≡ Extended)
+OnItsWheels grounded handle gears = T grounded × (handle ≡ UP) × (gears ≡ Extended)
 
 -- The ground model with both cases added. On its wheels what is printed is no move: the added case stands in its place.
 pub data Move : Bool → HandleStatus → Place → Place → Type 0 where
-  printed : {ground : Bool} {handle : HandleStatus} {p q : Place} → ¬ OnItsWheels ground handle p.gears → PrintedMove handle p q → Move ground handle p q
+  printed : {grounded : Bool} {handle : HandleStatus} {p q : Place} → ¬ OnItsWheels grounded handle p.gears → PrintedMove handle p q → Move grounded handle p q
   -- ADDED by document 01: "001 prints no CLOSING case for the outgoing sequence."
-  added_closing : {ground : Bool} {gears : Gears} → ¬ (gears ≡ Extended) → Move ground DOWN (place Closing gears) (place Opening gears)
+  added_closing : {grounded : Bool} {gears : Gears} → ¬ (gears ≡ Extended) → Move grounded DOWN (place Closing gears) (place Opening gears)
   -- ADDED by request K7: there the sequence "acts as if gears were at the aim", and so r_closeDoor stands in place of the retraction.
   added_on_ground : {from to : Doors} → CloseDoor from to → Move true UP (place from Extended) (place to Extended)
 
 -- One move of the ground model or none.
 pub data OneMoveOrNone : Bool → HandleStatus → Place → Place → Type 0 where
-  one_move : {ground : Bool} {handle : HandleStatus} {p q : Place} → Move ground handle p q → OneMoveOrNone ground handle p q
-  no_move : {ground : Bool} {handle : HandleStatus} {p : Place} → OneMoveOrNone ground handle p p
+  one_move : {grounded : Bool} {handle : HandleStatus} {p q : Place} → Move grounded handle p q → OneMoveOrNone grounded handle p q
+  no_move : {grounded : Bool} {handle : HandleStatus} {p : Place} → OneMoveOrNone grounded handle p p
 
 -- Where the ground model comes to from its initial state, whatever ground and handle do.
 pub data OfTheGroundModel : Place → Type 0 where
   initially : OfTheGroundModel initial
-  and_then : {p q : Place} → OfTheGroundModel p → (ground : Bool) (handle : HandleStatus) → Move ground handle p q → OfTheGroundModel q
+  and_then : {p q : Place} → OfTheGroundModel p → (grounded : Bool) (handle : HandleStatus) → Move grounded handle p q → OfTheGroundModel q

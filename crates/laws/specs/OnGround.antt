@@ -19,13 +19,13 @@ use Rattle.laws.specs.Laws.{ground_of}
 
 -- Gears are at the aim, or the sequence acts as if they were: "with the handle up, gears EXTENDED and any absorber voted on ground".
 unfoldable pub as_if_at_aim : Bool → Aim → Gears → Bool
-as_if_at_aim ground aim gears = at_aim aim gears || (is_up aim && are_extended gears && ground)
+as_if_at_aim grounded aim gears = at_aim aim gears || (is_up aim && are_extended gears && grounded)
 
 -- So the move is that of document 01 for gears at the aim, or for gears that are not.
 abbrev pub ActsAsIfAtTheAim : Type 0
 ActsAsIfAtTheAim =
-    (ground : Bool) (aim : Aim) (p : Place) (seen : Seen) →
-    move_on ground aim p seen ≡ cond (as_if_at_aim ground aim p.gears) (doors_home p seen) (doors_to_gears aim p seen)
+    (grounded : Bool) (aim : Aim) (p : Place) (seen : Seen) →
+    move_on grounded aim p seen ≡ cond (as_if_at_aim grounded aim p.gears) (doors_home p seen) (doors_to_gears aim p seen)
 
 -- ---- What it is for
 

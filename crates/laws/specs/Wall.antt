@@ -13,7 +13,7 @@ use Rattle.controller.specs.Steps.{step_of}
 abbrev pub asked_by : State → List ℕ → Asked
 asked_by s bytes =
     let votes : List Voter = all_voted bytes s.voters in
-    record { ground = on_ground votes; aim = aimed votes; place = s.core.place; seen = seen_of (sight_of votes) }
+    record { grounded = on_ground votes; aim = aimed votes; place = s.core.place; seen = seen_of (sight_of votes) }
 
 -- After an accepted sample without an anomaly, doors and gears are what the table tells at the number that was asked.
 abbrev pub TheTableRuns : State → Type 0

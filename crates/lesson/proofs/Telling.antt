@@ -8,7 +8,7 @@ use borrow.Author.Tests.{lt-ltb, le-ltb}
 use lib.ListN.{length}
 use Rattle.reading.specs.declared.Run.{Run}
 use Rattle.reading.specs.declared.Next.{Next}
-use Rattle.reading.specs.Runs.{Answer, calls, lent, take_by, finish_by}
+use Rattle.reading.specs.Runs.{Answer, calls, lent}
 use Rattle.reading.proofs.Lending.{take_lies, finish_lies}
 use Rattle.lesson.specs.declared.Took.{Took}
 use Rattle.lesson.specs.Replay.{text_by, text_told}

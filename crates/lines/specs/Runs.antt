@@ -5,7 +5,6 @@ use Rattle.std.proofs.Math.Option.{Option, none, some}
 use Rattle.common.specs.Answers.{Answer, gives, refuses}
 use Rattle.lines.specs.Cuts.{cut_of, last_of}
 use Rattle.lines.specs.Answers.{over_line, taken_says, final_says}
-use Rattle.lines.specs.declared.Taken.{Taken}
 use Rattle.lines.specs.declared.Taken.TheVariants.{Row, More, Over}
 use Rattle.lines.specs.declared.Final.{Final}
 

@@ -1,4 +1,4 @@
--- Where a loop from one descriptor to another stands. A part is what one read left at the front of the input buffer; it is taken in by one call
+-- Where a loop from a reader to a writer stands. A part is what one read left at the front of the input buffer; it is taken in by one call
 -- or several, and what each call gives is put out.
 -- Assumes nothing.
 use Rattle.std.specs.Prelude.{ℕ, ◌+◌, ◌-◌, ◌%◌, ◌^◌, Bool, true, false, not, ◌&&◌, List, take, drop, ◌==◌}

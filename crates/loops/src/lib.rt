@@ -1,4 +1,4 @@
-// Where a loop from one descriptor to another stands, in numbers alone: what each read and each call for a part make of it, and whether it goes
+// Where a loop from a reader to a writer stands, in numbers alone: what each read and each call for a part make of it, and whether it goes
 // on. The rule is specs/Progresses.antt. What is read and written is the caller's.
 #![tactic(auto)]
 

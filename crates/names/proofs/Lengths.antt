@@ -10,17 +10,7 @@ use Rattle.sequence.specs.declared.Doors.{Doors}
 use Rattle.sequence.specs.declared.Doors.TheVariants.{Closed, Opening, Open, Closing}
 use Rattle.sequence.specs.declared.Gears.{Gears}
 use Rattle.sequence.specs.declared.Gears.TheVariants.{Retracted, Extending, Extended, Retracting}
-use Rattle.names.specs.Words.{
-  entry,
-  sensor_names,
-  order_names,
-  lamp_names,
-  voter_words,
-  cause_words,
-  doors_word,
-  gears_word,
-  handle_word,
-}
+use Rattle.names.specs.Words.{entry, sensor_names, order_names, lamp_names, voter_words, cause_words, doors_word, gears_word}
 
 -- The length of the longest word of a list, and that no word is longer.
 abbrev pub longest : List (List ℕ) → ℕ

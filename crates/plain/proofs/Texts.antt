@@ -1,6 +1,6 @@
 -- Lines that the code puts together of other pieces than the rule does: a piece goes on past what is said, or on to the next line.
 -- Assumes nothing.
-use Prim.Native.Nat.{ℕ, ◌+◌}
+use Prim.Native.Nat.{ℕ}
 use mathlib.Core.List.{List, [], ◌∷◌, ◌++◌, append_assoc}
 use mathlib.Core.Path.{◌≡◌}
 use Rattle.common.specs.Ascii.{ascii, lf}

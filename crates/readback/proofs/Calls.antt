@@ -1,7 +1,7 @@
 -- The reader over calls: however a dump is cut into parts, with any buffers of 26 bytes, the calls of `take` and the call of `finish`
 -- give the moments of the whole reading, each with its values in the buffer of its call, and 9 exactly where the bytes are no dump.
 -- Assumes nothing.
-use Prim.Native.Nat.{ℕ, zero, suc, ◌+◌, ◌<◌, ◌≤◌}
+use Prim.Native.Nat.{ℕ, zero, suc, ◌<◌, ◌≤◌}
 use native.Mathlib.Omega.{arith}
 use mathlib.Core.Bool.{Bool, true, false, cond}
 use mathlib.Core.List.{List, [], ◌∷◌, ◌++◌, map, append_assoc}

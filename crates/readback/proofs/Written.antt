@@ -8,7 +8,7 @@ use mathlib.Core.Bool.{Bool, true, false, cond, and-false, true≢false}
 use mathlib.Core.List.{List, [], ◌∷◌, ◌++◌, append_assoc}
 use mathlib.Core.Path.{◌≡◌, refl, sym, ap, ◌∙◌}
 use borrow.Author.Tests.{lt-ltb, le-leb, lt-leb, eq-eqb, ne_eqb, ltb-true, ltb-false, leb-false}
-use lib.Dec.{eqb, ltb, leb}
+use lib.Dec.{ltb, leb}
 use lib.ListN.{length, drop, get_or, set, replicate, length-append, length-replicate, drop_of_length-le}
 use lib.Seq.{drop-cons, append_snoc, set_at, get_or_at}
 use Rattle.common.specs.Answers.{Answer, gives}

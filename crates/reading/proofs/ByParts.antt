@@ -2,9 +2,9 @@
 -- is written in all, what is carried on, and the run that is left. By induction over the turns: what the rows to come still come to, behind
 -- what was written, stays the same.
 -- Assumes nothing.
-use Prim.Native.Nat.{ℕ, zero, suc, ◌<◌, ◌≤◌}
+use Prim.Native.Nat.{ℕ, zero, suc, ◌≤◌}
 use native.Mathlib.Omega.{arith}
-use mathlib.Core.Bool.{Bool, false}
+use mathlib.Core.Bool.{false}
 use mathlib.Core.List.{List, [], ◌∷◌, ◌++◌, append-nil}
 use mathlib.Core.Path.{◌≡◌, refl, sym, ap, ◌∙◌}
 use borrow.Author.Tests.{eq-eqb, le-ltb}
@@ -23,30 +23,11 @@ use Rattle.reading.specs.declared.Reading.{Reading}
 use Rattle.reading.specs.declared.Came.TheVariants.{Nothing}
 use Rattle.reading.specs.declared.Run.{Run}
 use Rattle.reading.specs.declared.Next.{Next}
-use Rattle.reading.specs.Rows.{row_of, over_of, end_of, read_from}
+use Rattle.reading.specs.Rows.{row_of, over_of, read_from}
 use Rattle.reading.specs.Whole.{read_to}
 use Rattle.reading.specs.Ends.{Silent}
-use Rattle.reading.specs.Parts.{line_bytes, between, run_from, after_cut, after_last, lent_line, take_of, finish_of}
-use Rattle.reading.specs.Runs.{
-  Teller,
-  told_of,
-  Outcome,
-  behind,
-  in_rows,
-  to_come,
-  Right,
-  Answer,
-  calls,
-  lent,
-  take_by,
-  finish_by,
-  input_of,
-  wrote,
-  in_turns,
-  turns_for,
-  AllRoom,
-  in_all,
-}
+use Rattle.reading.specs.Parts.{line_bytes, between, run_from, after_cut, after_last, take_of, finish_of}
+use Rattle.reading.specs.Runs.{Teller, told_of, behind, in_rows, to_come, Right, Answer, calls, lent, take_by, finish_by, input_of, wrote, in_turns, turns_for, AllRoom, in_all}
 use Rattle.reading.proofs.Ends.{over_row, after_refusal, after_over, past_row}
 
 module _ {A : Type 0} (tell : Teller A) where

@@ -7,8 +7,8 @@ use mathlib.Core.Bool.{Bool}
 use mathlib.Core.List.{List}
 use mathlib.Core.Path.{◌≡◌, refl}
 use lib.Dec.{eqb, ltb}
-use lib.ListN.{length, take, length-append}
-use Rattle.lines.specs.Cuts.{cut_of, last_of, rows_from}
+use lib.ListN.{length, length-append}
+use Rattle.lines.specs.Cuts.{cut_of, last_of}
 use Rattle.lines.specs.declared.Taken.{Taken}
 use Rattle.lines.specs.declared.Taken.TheVariants.{Row, More, Over}
 use Rattle.lines.specs.declared.Final.{Final}

@@ -1,12 +1,17 @@
 // The program `replay`: a trace on standard input, its rows on standard output (document 01, "The trace and its program").
 #![tactic(auto)]
 
-use libc::{STDIN_FILENO, STDOUT_FILENO};
+use words::{Streams, arguments};
 
-fn main() {
-    if os::arg_count() == 1 {
-        running::traces::replay(STDIN_FILENO, STDOUT_FILENO);
+fn main(rt: HostRuntime) {
+    let mut streams = Streams {
+        input: rt.stdin(),
+        output: rt.stdout(),
+        errors: rt.stderr(),
+    };
+    if arguments::count(&rt) == 1 {
+        running::traces::replay(&mut streams);
         return;
     }
-    words::say(b"replay", b"use: replay < TRACE");
+    words::say(&mut streams.errors, b"replay", b"use: replay < TRACE");
 }

@@ -1,4 +1,4 @@
--- The one loop of all programs, from a descriptor to a descriptor: what one step promises over what `read` left in the input buffer, and what
+-- The one loop of all programs, from a reader to a writer: what one step promises over what `read` left in the input buffer, and what
 -- the whole loop does. What `read` and `write` do is the operating system's: that the bytes which `read` left are those of the input, and that
 -- `write` moves those that it is handed, is not said here.
 -- Assumes nothing.

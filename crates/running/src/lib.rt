@@ -1,4 +1,4 @@
-// The one loop of all programs: from a descriptor that a trace or a dump is read from to one that what is made of it is put out to. A part is read,
+// The one loop of all programs: from a reader of a trace or a dump to a writer that what is made of it is put out to. A part is read,
 // as much of it taken in as the output buffer has room for, and what that gives is put out at once, so that a live pipe sees its rows.
 // What is made of the input is the work (specs/Works.antt), by its task and the crates below; where the loop stands in numbers is `loops`.
 // specs/Loops.antt says what each step promises over the bytes that `read` left, and what the whole loop does; what `read` and `write` do is the
@@ -30,6 +30,8 @@ use dump::Dump;
 use loops::Progress;
 use output::Written;
 use reading::{Phase, Run};
+use std::io::{ErrorKind, Read, Write};
+use words::Streams;
 
 pub mod traces;
 
@@ -214,17 +216,22 @@ impl Work {
     }
 }
 
-// Runs a task from a controller to its end, from one descriptor to another, and says on standard error what ended it, if anything did. The header
+// Runs a task from a controller to its end, from the input to the output, and says on standard error what ended it, if anything did. The header
 // comes first in every case.
-pub fn run(name: &[u8], from: i32, to: i32, task: Task, state: State) -> Ran
+pub fn run<R: Read, W: Write, E: Write>(
+    streams: &mut Streams<R, W, E>,
+    name: &[u8],
+    task: Task,
+    state: State,
+) -> Ran
     ensures { RanFrom task state result }
 {
     let start = Work::from(state);
     let mut line = [0u8; 512];
     let mut input = part_room();
-    let mut out = io::large_buffer();
+    let mut out = words::rooms::large();
     let n = put_header(task, &mut out);
-    if !words::put(name, to, &out, n) {
+    if !words::put(streams, name, &out, n) {
         return Ran {
             well: false,
             end: false,
@@ -233,9 +240,9 @@ pub fn run(name: &[u8], from: i32, to: i32, task: Task, state: State) -> Ran
         };
     }
     let ran = all(
-        name, from, to, task, start, n as u64, &mut input, &mut line, &mut out,
+        streams, name, task, start, n as u64, &mut input, &mut line, &mut out,
     );
-    tell(name, ran, &line);
+    tell(&mut streams.errors, name, ran, &line);
     ran
 }
 
@@ -279,68 +286,78 @@ fn header_of_sheet(out: &mut [u8]) -> usize
 }
 
 // On standard error, what ended the reading before the end of the input, if anything did. Where something failed that has been said.
-fn tell(name: &[u8], ran: Ran, line: &[u8]) {
+fn tell<E: Write>(errors: &mut E, name: &[u8], ran: Ran, line: &[u8]) {
     if !ran.well {
         return;
     }
     let work = ran.work;
     let sheet = work.sheet;
     if sheet.nine {
-        words::nine(name, sheet.line, sheet.rows);
+        words::nine(errors, name, sheet.line, sheet.rows);
     }
     let run = work.run;
     let phase = run.phase();
     if let Phase::Ended { line: at, refusal } = phase {
-        words::refused(name, at, refusal, line);
+        words::refused(errors, name, at, refusal, line);
     }
 }
 
 // Whether to try again after a read that failed: a signal came before a byte did. Else says why it failed.
-fn is_interrupted(name: &[u8]) -> bool {
-    let error = os::errno();
-    if error == libc::EINTR {
+fn is_interrupted<E: Write>(errors: &mut E, name: &[u8], kind: ErrorKind) -> bool {
+    if kind == ErrorKind::Interrupted {
         return true;
     }
-    if error == libc::EAGAIN {
+    if kind == ErrorKind::WouldBlock {
         words::say(
+            errors,
             name,
             b"standard input does not wait: no bytes were there yet (EAGAIN), and reading stopped",
         );
         return false;
     }
-    words::say(name, b"reading failed");
+    words::say(errors, name, b"reading failed");
     false
 }
 
 // A part is read into the input buffer: as many bytes as `read` answers, or none where it failed.
-fn read(name: &[u8], from: i32, progress: Progress, input: &mut [u8]) -> Progress
+fn read<R: Read, W, E: Write>(
+    streams: &mut Streams<R, W, E>,
+    name: &[u8],
+    progress: Progress,
+    input: &mut [u8],
+) -> Progress
     ensures { AfterRead progress result input.new }
 {
-    let got = libc::read(from, input);
-    if got < 0 {
-        return progress.not_read(is_interrupted(name));
+    match streams.input.read(input) {
+        Ok(n) => progress.read(n),
+        Err(error) => { progress.not_read(is_interrupted(&mut streams.errors, name, error.kind())) }
     }
-    progress.read(io::count(got, input))
 }
 
 // Hands to `write` what a call wrote. A call that was refused stops the loop: nothing of the input is dropped in silence.
-fn put_out(name: &[u8], to: i32, filled: Filled, out: &[u8]) -> bool
+fn put_out<R, W: Write, E: Write>(
+    streams: &mut Streams<R, W, E>,
+    name: &[u8],
+    filled: Filled,
+    out: &[u8],
+) -> bool
     ensures { T result → filled.refusal ≡ 0 }
 {
     if filled.refusal != 0 {
         words::say(
+            &mut streams.errors,
             name,
             b"refusal 8: a buffer of this program is too short; reading stopped",
         );
         return false;
     }
-    words::put(name, to, out, filled.written)
+    words::put(streams, name, out, filled.written)
 }
 
 // As much of what is left of the part as the output buffer has room for is taken in, and what that gives is put out.
-fn take_in(
+fn take_in<R, W: Write, E: Write>(
+    streams: &mut Streams<R, W, E>,
     name: &[u8],
-    to: i32,
     task: Task,
     at: At,
     input: &[u8],
@@ -356,7 +373,7 @@ fn take_in(
     let first = end - progress.left;
     let filled = work.fill(task, &input[first..end], line, out);
     let next = filled.work;
-    let well = put_out(name, to, filled, out);
+    let well = put_out(streams, name, filled, out);
     At {
         work: next,
         progress: progress.taken_in(filled.used, filled.written, well),
@@ -364,10 +381,9 @@ fn take_in(
 }
 
 // One step: a read where nothing is left of the part, and else a call for what is left of it.
-fn step(
+fn step<R: Read, W: Write, E: Write>(
+    streams: &mut Streams<R, W, E>,
     name: &[u8],
-    from: i32,
-    to: i32,
     task: Task,
     at: At,
     input: &mut [u8],
@@ -379,12 +395,12 @@ fn step(
 {
     let progress = at.progress;
     if 0 < progress.left {
-        return take_in(name, to, task, at, input, line, out);
+        return take_in(streams, name, task, at, input, line, out);
     }
     let work = at.work;
     At {
         work,
-        progress: read(name, from, progress, input),
+        progress: read(streams, name, progress, input),
     }
 }
 
@@ -398,7 +414,14 @@ fn goes_on(task: Task, at: At) -> bool
 }
 
 // The end of the loop: what is still in the line buffer is the last row. (Behind a refusal that ended the reading nothing comes of it.)
-fn ended(name: &[u8], to: i32, task: Task, at: At, line: &mut [u8], out: &mut [u8]) -> Ran
+fn ended<R, W: Write, E: Write>(
+    streams: &mut Streams<R, W, E>,
+    name: &[u8],
+    task: Task,
+    at: At,
+    line: &mut [u8],
+    out: &mut [u8],
+) -> Ran
     ensures { T result.well → AfterLast task at result line.old line.new out.old out.new }
 {
     let work = at.work;
@@ -414,18 +437,17 @@ fn ended(name: &[u8], to: i32, task: Task, at: At, line: &mut [u8], out: &mut [u
     let last = work.last(task, line, out);
     let left = last.work;
     Ran {
-        well: put_out(name, to, last, out),
+        well: put_out(streams, name, last, out),
         end: progress.end,
         work: left,
         put: std::num::wrapping_add_u64(progress.put, last.written as u64),
     }
 }
 
-// All steps. A proved loop has to end, and nothing says that the input does: it counts its steps down from a number that no input uses up.
-fn all(
+// All steps. A proved loop has to end, and nothing says that the input does: it has more steps than any input uses up.
+fn all<R: Read, W: Write, E: Write>(
+    streams: &mut Streams<R, W, E>,
     name: &[u8],
-    from: i32,
-    to: i32,
     task: Task,
     start: Work,
     put: u64,
@@ -440,13 +462,11 @@ fn all(
         work: start,
         progress: Progress::first(put),
     };
-    let mut steps = u64::MAX;
-    while steps > 0 {
-        at = step(name, from, to, task, at, input, line, out);
+    for _ in 0..u64::MAX {
+        at = step(streams, name, task, at, input, line, out);
         if !goes_on(task, at) {
-            return ended(name, to, task, at, line, out);
+            return ended(streams, name, task, at, line, out);
         }
-        steps -= 1;
     }
     let work = at.work;
     let progress = at.progress;

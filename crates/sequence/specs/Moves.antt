@@ -85,4 +85,4 @@ aim_in_force true ToExtended gears = ToExtended
 
 -- At most one move, on ground or in the air.
 abbrev pub move_on : Bool → Aim → Place → Seen → Place
-move_on ground aim p seen = move_of (aim_in_force ground aim p.gears) p seen
+move_on grounded aim p seen = move_of (aim_in_force grounded aim p.gears) p seen

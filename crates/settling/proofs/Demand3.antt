@@ -100,8 +100,8 @@ module _ (down : Bool) (these : Absorbers) (s : State) (r : Row) (rs : List Row)
   in_force_here : in_force (all_voted r.1 s.voters) s.core ≡ aim_here
   unfolding aimed
   in_force_here =
-      let ground : Bool = on_ground (all_voted r.1 s.voters) in
-      ap (λ (b : Bool). aim_in_force ground (aim_of b) (gears_of s)) handle_held ∙ by_ground down ground (any_of these) (gears_of s) ground_next
+      let grounded : Bool = on_ground (all_voted r.1 s.voters) in
+      ap (λ (b : Bool). aim_in_force grounded (aim_of b) (gears_of s)) handle_held ∙ by_ground down grounded (any_of these) (gears_of s) ground_next
 
   core_next_lem : (next s r).core ≡ core_next aim_here s.core (told_by s r)
   unfolding core_next

@@ -48,7 +48,7 @@ ground_held false these s h up =
 -- ---- The aim in force
 
 -- With the handle down it is the handle's.
-handle_down : (ground : Bool) (gears : Gears) → aim_in_force ground ToExtended gears ≡ ToExtended
+handle_down : (grounded : Bool) (gears : Gears) → aim_in_force grounded ToExtended gears ≡ ToExtended
 unfolding aim_in_force
 handle_down true gears = refl
 handle_down false gears = refl
@@ -60,11 +60,11 @@ in_the_air aim gears = refl
 
 -- So only with the handle up the ground matters.
 pub by_ground :
-    (down ground other : Bool) (gears : Gears) →
-    (T (not down) → ground ≡ other) →
-    aim_in_force ground (aim_of down) gears ≡ aim_in_force other (aim_of down) gears
-by_ground true ground other gears e = handle_down ground gears ∙ sym (handle_down other gears)
-by_ground false ground other gears e = ap (λ (g : Bool). aim_in_force g ToRetracted gears) (e tt)
+    (down grounded other : Bool) (gears : Gears) →
+    (T (not down) → grounded ≡ other) →
+    aim_in_force grounded (aim_of down) gears ≡ aim_in_force other (aim_of down) gears
+by_ground true grounded other gears e = handle_down grounded gears ∙ sym (handle_down other gears)
+by_ground false grounded other gears e = ap (λ (g : Bool). aim_in_force g ToRetracted gears) (e tt)
 
 -- A move keeps it.
 up_on_ground :
@@ -93,21 +93,21 @@ up_on_ground Closing Extended seen = refl
 up_on_ground Closing Retracting seen = refl
 
 move_keeps :
-    (red ground : Bool) (aim : Aim) (p : Place) (seen : Seen) →
-    aim_in_force ground aim (cond red p (move_on ground aim p seen)).gears ≡ aim_in_force ground aim p.gears
-move_keeps true ground aim p seen = refl
+    (red grounded : Bool) (aim : Aim) (p : Place) (seen : Seen) →
+    aim_in_force grounded aim (cond red p (move_on grounded aim p seen)).gears ≡ aim_in_force grounded aim p.gears
+move_keeps true grounded aim p seen = refl
 move_keeps false true ToRetracted p seen = up_on_ground p.doors p.gears seen
 move_keeps false true ToExtended p seen = handle_down true _ ∙ sym (handle_down true p.gears)
 move_keeps false false aim p seen = in_the_air aim _ ∙ sym (in_the_air aim p.gears)
 
 -- So does a step of the core, red or not.
 pub force_stays :
-    (ground : Bool) (aim : Aim) (c : Core) (t : Told) →
-    aim_in_force ground aim (core_next (aim_in_force ground aim c.place.gears) c t).place.gears ≡ aim_in_force ground aim c.place.gears
+    (grounded : Bool) (aim : Aim) (c : Core) (t : Told) →
+    aim_in_force grounded aim (core_next (aim_in_force grounded aim c.place.gears) c t).place.gears ≡ aim_in_force grounded aim c.place.gears
 unfolding core_next core_stages
-force_stays ground aim c t =
+force_stays grounded aim c t =
     let watched : Core = core_monitors t.see (core_handle t.turned (core_ages t.elapsed c)) in
-    move_keeps (anomaly watched) ground aim c.place (seen_of t.see)
+    move_keeps (anomaly watched) grounded aim c.place (seen_of t.see)
 
 -- ---- Settled at the aim in force
 
@@ -121,7 +121,7 @@ on_its_wheels c h =
     (other_way (settled ToRetracted c) home)
     (or_yes (anomaly c) home h)
 
-pub counts_as_settled : (ground : Bool) (aim : Aim) (gears : Gears) (c : Core) → Settled (aim_in_force ground aim gears) c → T (settled_on ground aim c)
+pub counts_as_settled : (grounded : Bool) (aim : Aim) (gears : Gears) (c : Core) → Settled (aim_in_force grounded aim gears) c → T (settled_on grounded aim c)
 unfolding aim_in_force settled_on
 counts_as_settled false aim gears c h = one_way (settled aim c) _ h
 counts_as_settled true ToExtended gears c h = one_way (settled ToExtended c) _ h

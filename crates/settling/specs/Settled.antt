@@ -34,7 +34,7 @@ Unsettled aim c = T (not (settled aim c))
 
 -- Request K7, for the handle up: "with one on ground, doors CLOSED with gears EXTENDED also counts as settled".
 unfoldable pub settled_on : Bool → Aim → Core → Bool
-settled_on ground aim c = settled aim c || (ground && is_up aim && is_home ToExtended c.place)
+settled_on grounded aim c = settled aim c || (grounded && is_up aim && is_home ToExtended c.place)
 
 -- A state is settled, with the handle so (true for down).
 abbrev pub is_settled : Bool → State → Bool

@@ -1,3 +1,5 @@
+#![tactic(auto)]
+
 // Demand 3, and no code: from a fresh start or a taken image, with the voted handle held still, and where it is up the absorbers (request
 // K7), within the bound red is latched or doors and gears have settled.
 // What is claimed is written with specs/: Settled.antt (what settled means, and the demand), Runs.antt (a run of samples with handle

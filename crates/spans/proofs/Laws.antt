@@ -12,22 +12,22 @@ unfolding slice
 slice_cons i to s d below within = slice-cons i to s d below within
 
 -- a byte that the part begins with is at its start
-pub index_of-slice_here : (b i to : ℕ) (s : List ℕ) → i < to → to ≤ length s → get_or s i 0 ≡ b → index_of b (slice i to s) ≡ 0
+pub index_of_slice_here : (b i to : ℕ) (s : List ℕ) → i < to → to ≤ length s → get_or s i 0 ≡ b → index_of b (slice i to s) ≡ 0
 unfolding index_of
-index_of-slice_here b i to s below within same =
+index_of_slice_here b i to s below within same =
     ap (λ t. index_of b t) (slice_cons i to s 0 below within)
     ∙ cond-true (eqb (get_or s i 0) b) 0 (suc (index_of b (slice (suc i) to s))) (eq-eqb (get_or s i 0) b same)
 
 -- one that it does not begin with is sought behind its first
-pub index_of-slice_past : (b i to : ℕ) (s : List ℕ) → i < to → to ≤ length s → (get_or s i 0 ≡ b → ⊥) → index_of b (slice i to s) ≡ suc (index_of b (slice (suc i) to s))
+pub index_of_slice_past : (b i to : ℕ) (s : List ℕ) → i < to → to ≤ length s → (get_or s i 0 ≡ b → ⊥) → index_of b (slice i to s) ≡ suc (index_of b (slice (suc i) to s))
 unfolding index_of
-index_of-slice_past b i to s below within other =
+index_of_slice_past b i to s below within other =
     ap (λ t. index_of b t) (slice_cons i to s 0 below within)
     ∙ cond-false (eqb (get_or s i 0) b) 0 (suc (index_of b (slice (suc i) to s))) (ne_eqb (get_or s i 0) b other)
 
 -- in an empty part it is at the end, which is the start
-pub index_of-slice_none : (b i to : ℕ) (s : List ℕ) → to ≤ i → to ≤ length s → index_of b (slice i to s) ≡ 0
+pub index_of_slice_none : (b i to : ℕ) (s : List ℕ) → to ≤ i → to ≤ length s → index_of b (slice i to s) ≡ 0
 unfolding index_of slice
-index_of-slice_none b i to s past within =
+index_of_slice_none b i to s past within =
     let short : length (take to s) ≤ i = omega (arith, length-take-le to s within) in
     ap (λ t. index_of b t) (drop_of_length-le (take to s) short)

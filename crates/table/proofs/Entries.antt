@@ -48,9 +48,9 @@ pub handle_to_1 : (aim : Aim) → handle_number aim ≤ 1
 handle_to_1 ToRetracted = lit≤ tt
 handle_to_1 ToExtended = lit≤ tt
 
-pub to_768 : (ground : Bool) (aim : Aim) → ground_and_handle ground aim ≤ 768
+pub to_768 : (grounded : Bool) (aim : Aim) → ground_and_handle grounded aim ≤ 768
 unfolding ground_and_handle
-to_768 ground aim = omega (arith, bit_to_1 ground, handle_to_1 aim)
+to_768 grounded aim = omega (arith, bit_to_1 grounded, handle_to_1 aim)
 
 pub facts_to_15 : (seen : Seen) → facts_number seen ≤ 15
 unfolding facts_number
@@ -99,11 +99,11 @@ parts t h d g o c e r t1 h1 d3 g3 o1 c1 e1 r1 =
 
 -- The parts of the number of what is asked.
 parts_of : (a : Asked)
-    → Parts (bit a.ground) (handle_number a.aim) (doors_number a.place.doors) (gears_number a.place.gears)
+    → Parts (bit a.grounded) (handle_number a.aim) (doors_number a.place.doors) (gears_number a.place.gears)
     (bit a.seen.opened) (bit a.seen.closed) (bit a.seen.extended) (bit a.seen.retracted)
 parts_of a =
     parts _ _ _ _ _ _ _ _
-    (bit_to_1 a.ground) (handle_to_1 a.aim) (doors_to_3 a.place.doors) (gears_to_3 a.place.gears)
+    (bit_to_1 a.grounded) (handle_to_1 a.aim) (doors_to_3 a.place.doors) (gears_to_3 a.place.gears)
     (bit_to_1 a.seen.opened) (bit_to_1 a.seen.closed) (bit_to_1 a.seen.extended) (bit_to_1 a.seen.retracted)
 
 -- No number is past the table.
@@ -125,7 +125,7 @@ asked_at_number a =
       p.part_c,
       p.part_e,
       p.part_r,
-      one_is a.ground,
+      one_is a.grounded,
       handle_is a.aim,
       doors_at_number a.place.doors,
       gears_at_number a.place.gears,

@@ -20,12 +20,12 @@ facts_number seen = 8 * bit seen.opened + 4 * bit seen.closed + 2 * bit seen.ext
 
 -- Ground and handle, which are most significant.
 unfoldable pub ground_and_handle : Bool → Aim → ℕ
-ground_and_handle ground aim = 512 * bit ground + 256 * handle_number aim
+ground_and_handle grounded aim = 512 * bit grounded + 256 * handle_number aim
 
 -- Ground, handle, doors, gears, and the facts, the first most significant.
 unfoldable pub number_of : Asked → ℕ
 number_of a =
-    ground_and_handle a.ground a.aim +
+    ground_and_handle a.grounded a.aim +
     64 * doors_number a.place.doors +
     16 * gears_number a.place.gears +
     facts_number a.seen
@@ -54,7 +54,7 @@ facts_at n =
 unfoldable pub asked_at : ℕ → Asked
 asked_at n =
     record {
-      ground = is_one (n / 512 % 2);
+      grounded = is_one (n / 512 % 2);
       aim = aim_of (is_one (n / 256 % 2));
       place = place (doors_at (n / 64 % 4)) (gears_at (n / 16 % 4));
       seen = facts_at n;
@@ -64,7 +64,7 @@ asked_at n =
 
 -- What comes next, by the rule of document 01 with request K7.
 unfoldable pub next_of : Asked → Place
-next_of a = move_on a.ground a.aim a.place a.seen
+next_of a = move_on a.grounded a.aim a.place a.seen
 
 -- An entry holds doors and gears as one number.
 unfoldable pub place_number : Place → ℕ

@@ -32,18 +32,18 @@ const IN_THE_AIR: usize = 512;
 // What the table is asked: whether any absorber is on ground, handle, doors, gears, and what is seen.
 #[derive(Clone, Copy)]
 pub struct Asked {
-    pub ground: bool,
+    pub grounded: bool,
     pub aim: Aim,
     pub place: Place,
     pub seen: Seen,
 }
 
 // At most one move of doors and gears: what the table tells.
-pub fn moved(place: Place, ground: bool, aim: Aim, seen: Seen) -> Place
-    ensures { result ≡ move_on ground aim place seen }
+pub fn moved(place: Place, grounded: bool, aim: Aim, seen: Seen) -> Place
+    ensures { result ≡ move_on grounded aim place seen }
 {
     let asked = Asked {
-        ground,
+        grounded,
         aim,
         place,
         seen,
@@ -88,7 +88,7 @@ impl Asked {
         let gears = place.gears;
         let aim = self.aim;
         let facts = facts_number(self.seen);
-        ground_and_handle(self.ground, aim)
+        ground_and_handle(self.grounded, aim)
             + 64 * (doors.number() as usize)
             + 16 * (gears.number() as usize)
             + facts
@@ -103,7 +103,7 @@ impl Asked {
             gears: Gears::numbered((n / 16 % 4) as u32),
         };
         Asked {
-            ground: n / 512 % 2 == 1,
+            grounded: n / 512 % 2 == 1,
             aim: aim_of(n / 256 % 2 == 1),
             place,
             seen: facts_at(n),
@@ -188,10 +188,10 @@ const NEXT: [[u8; 16]; 64] = [
 ];
 
 // Ground and handle as a number, the ground most significant.
-fn ground_and_handle(ground: bool, aim: Aim) -> usize
-    ensures { result ≡ ground_and_handle ground aim }
+fn ground_and_handle(grounded: bool, aim: Aim) -> usize
+    ensures { result ≡ ground_and_handle grounded aim }
 {
-    512 * (ground as usize) + 256 * (aim.number() as usize)
+    512 * (grounded as usize) + 256 * (aim.number() as usize)
 }
 
 // The facts as a number: all open, all closed, all extended, all retracted, the first most significant.

@@ -6,7 +6,7 @@ use mathlib.Core.List.{List, [], ◌++◌}
 use mathlib.Core.Path.{◌≡◌}
 use lib.ListN.{length, length-append}
 use Rattle.texts.specs.Puts.{Put, PutIfRoom, put_of}
-use Rattle.texts.proofs.Placing.{did_put, then, same_piece, put_nothing}
+use Rattle.texts.proofs.Placing.{did_put, then, put_nothing}
 
 -- Nothing is put.
 pub nothing : (line : List ℕ) (at : ℕ) → PutIfRoom line at [] line at

@@ -10,7 +10,7 @@ use Rattle.common.proofs.Pairs.{both}
 use borrow.Author.Tests.{le-leb, lt-leb, leb-true, leb-false}
 use lib.Dec.{leb}
 use borrow.Rule.Slice.PartMut.{mid_of, post_of, put_mid}
-use lib.ListN.{length, get_or, set, take, drop, length-append, length-set, length-take, length-drop, take-append-drop}
+use lib.ListN.{length, set, take, drop, length-append, length-set, length-take, length-drop, take-append-drop}
 use lib.Seq.{
   take-length,
   take_at,

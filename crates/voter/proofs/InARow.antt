@@ -1,7 +1,7 @@
 -- Request K5 over any number of samples, in its words: a channel is struck exactly if somewhere three in a row had it as the odd one while
 -- all were valid.
 -- Assumes nothing.
-use Prim.Native.Nat.{ℕ, ◌+◌, ◌≤◌}
+use Prim.Native.Nat.{ℕ, ◌≤◌}
 use native.Mathlib.Omega.{arith}
 use mathlib.Core.Bool.{Bool, true, false}
 use mathlib.Core.List.{List, [], ◌∷◌, ◌++◌, append_assoc}
@@ -9,7 +9,7 @@ use mathlib.Core.Logic.{◌↔◌}
 use mathlib.Core.Path.{◌≡◌, ◌∙◌, refl, sym, ap, subst, subst⁻¹}
 use lib.Dec.{T, eqb, eqb→eq, eqb_refl}
 use borrow.Author.Tests.{eqb-true, eqb-false}
-use Rattle.voter.specs.Voting.{third, fresh_with, none_left, is_invalid}
+use Rattle.voter.specs.Voting.{fresh_with, none_left, is_invalid}
 use Rattle.voter.specs.Numbers.{channels_number, channels_at, number_of}
 use Rattle.voter.specs.Runs.{Reading, odd_in, heard, heard_all, is_struck, ThreeOdd}
 use Rattle.voter.specs.declared.Channels.{Channels}

@@ -1,6 +1,11 @@
 -- No second answer meets the contract of a public function of this crate, but for `put`: what it answers is the operating system's too.
+-- (Whatever standard error is: `E` is its type.)
 -- Assumes nothing.
 use mathlib.Core.Path.{sym, ◌∙◌}
+use denote.Param.Laws.{Laws}
+use denote.RattleType.{RattleType}
+use mir.Syntax.{Dict}
+use Rattle.std.specs.declared.io.traits.Write.{Ghosts}
 use Rattle.common.specs.OneAnswer.{OneAnswer}
 use Rattle.words.proofs.say.Kinds as say_kinds
 use Rattle.words.proofs.say.Reads as say_reads
@@ -9,11 +14,14 @@ use Rattle.words.proofs.refused.Reads as refused_reads
 use Rattle.words.proofs.nine.Kinds as nine_kinds
 use Rattle.words.proofs.nine.Reads as nine_reads
 
-pub say_once : OneAnswer 2 say_kinds.ps say_kinds.r say_reads.Post
-say_once κs a x y s t p q = p ∙ sym q
+pub say_once : (E : RattleType) (laws : Laws E) (write : Ghosts E.Denot) (dict : Dict)
+    → OneAnswer 4 (say_kinds.ps E laws) (say_kinds.r E laws) (say_reads.Post E laws write dict)
+say_once E laws write dict κs a x y s t p q = p ∙ sym q
 
-pub refused_once : OneAnswer 2 refused_kinds.ps refused_kinds.r refused_reads.Post
-refused_once κs a x y s t p q = p ∙ sym q
+pub refused_once : (E : RattleType) (laws : Laws E) (write : Ghosts E.Denot) (dict : Dict)
+    → OneAnswer 4 (refused_kinds.ps E laws) (refused_kinds.r E laws) (refused_reads.Post E laws write dict)
+refused_once E laws write dict κs a x y s t p q = p ∙ sym q
 
-pub nine_once : OneAnswer 1 nine_kinds.ps nine_kinds.r nine_reads.Post
-nine_once κs a x y s t p q = p ∙ sym q
+pub nine_once : (E : RattleType) (laws : Laws E) (write : Ghosts E.Denot) (dict : Dict)
+    → OneAnswer 3 (nine_kinds.ps E laws) (nine_kinds.r E laws) (nine_reads.Post E laws write dict)
+nine_once E laws write dict κs a x y s t p q = p ∙ sym q

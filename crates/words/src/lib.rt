@@ -17,7 +17,10 @@ ghost use Rattle.words.specs.Messages.{
   nine_text,
 };
 
-use libc::STDERR_FILENO;
+use std::io::Write;
+
+pub mod arguments;
+pub mod rooms;
 
 // A line of at most so many bytes is written at once.
 const AT_ONCE: usize = 8192;
@@ -25,62 +28,75 @@ const AT_ONCE: usize = 8192;
 // What a line has besides the name and what there is to say: a colon, a space and its end.
 const AROUND: usize = 3;
 
+// What a program reads from, what it writes to, and what it says to a person on.
+#[derive(Drop)]
+pub struct Streams<R, W, E> {
+    pub input: R,
+    pub output: W,
+    pub errors: E,
+}
+
 // A line on standard error: the program's name and what it has to say. Answers whether it was handed to `write` at once, and not piece by piece.
-pub fn say(name: &[u8], what: &[u8]) -> bool
+pub fn say<E: Write>(errors: &mut E, name: &[u8], what: &[u8]) -> bool
     ensures { result ≡ is_at_once name.now what.now }
 {
     if AT_ONCE - AROUND < name.len() {
-        return say_in_pieces(name, what);
+        return say_in_pieces(errors, name, what);
     }
     if AT_ONCE - AROUND - name.len() < what.len() {
-        return say_in_pieces(name, what);
+        return say_in_pieces(errors, name, what);
     }
     let mut text = [0u8; AT_ONCE];
     let end = put_said(&mut text, name, what);
-    io::write_all(STDERR_FILENO, &text[..end]);
+    let _ = errors.write_all(&text[..end]);
     true
 }
 
 // Hands the first n bytes to `write`, and answers whether all of them were there and it took them. Where it did not, says so.
-pub fn put(name: &[u8], to: i32, out: &[u8], n: usize) -> bool
+pub fn put<R, W: Write, E: Write>(
+    streams: &mut Streams<R, W, E>,
+    name: &[u8],
+    out: &[u8],
+    n: usize,
+) -> bool
     ensures { T result → n ≤ length out.now }
 {
     if out.len() < n {
         return false;
     }
-    if io::write_all(to, &out[..n]) {
+    if streams.output.write_all(&out[..n]).is_ok() {
         return true;
     }
-    say(name, b"writing failed");
+    say(&mut streams.errors, name, b"writing failed");
     false
 }
 
 // The refusal that ended the reading of a trace; the line buffer is as the row that was refused left it. Answers as `say` does.
-pub fn refused(name: &[u8], line: u64, refusal: u8, buffer: &[u8]) -> bool
+pub fn refused<E: Write>(errors: &mut E, name: &[u8], line: u64, refusal: u8, buffer: &[u8]) -> bool
     ensures { result ≡ is_at_once name.now (refused_text line refusal (has_lf buffer.now)) }
 {
     let mut text = [0u8; 256];
     let end = put_refused(&mut text, line, refusal, has_lf(buffer));
-    say(name, &text[..end])
+    say(errors, name, &text[..end])
 }
 
 // Refusal 9 of a dump. Answers as `say` does.
-pub fn nine(name: &[u8], line: u64, rows: u64) -> bool
+pub fn nine<E: Write>(errors: &mut E, name: &[u8], line: u64, rows: u64) -> bool
     ensures { result ≡ is_at_once name.now (nine_text line rows) }
 {
     let mut text = [0u8; 128];
     let end = put_nine(&mut text, line, rows);
-    say(name, &text[..end])
+    say(errors, name, &text[..end])
 }
 
 // A line that is too long to be put together.
-fn say_in_pieces(name: &[u8], what: &[u8]) -> bool
+fn say_in_pieces<E: Write>(errors: &mut E, name: &[u8], what: &[u8]) -> bool
     ensures { result ≡ false }
 {
-    io::write_all(STDERR_FILENO, name);
-    io::write_all(STDERR_FILENO, b": ");
-    io::write_all(STDERR_FILENO, what);
-    io::write_all(STDERR_FILENO, b"\n");
+    let _ = errors.write_all(name);
+    let _ = errors.write_all(b": ");
+    let _ = errors.write_all(what);
+    let _ = errors.write_all(b"\n");
     false
 }
 

@@ -1,7 +1,6 @@
 -- `controller::fresh_voters` meets its contract: eighteen sensors, each with what it holds.
 -- Assumes nothing.
 use Rattle.controller.specs.Start.{fresh_voters}
-use Rattle.std.proofs.Common.{rules}
 use Rattle.controller.proofs.fresh_voters.Goals as goal
 
 pub returns : goal.returns

@@ -1,9 +1,7 @@
 -- `controller::some_over_one` meets its contract: what has been seen, with what is still to come, stays the answer.
 -- Assumes nothing.
-use Rattle.std.proofs.Common.{◌≡◌, ◌-◌, ◌≤◌, ◌||◌, ltb, length, drop, sym, ◌∙◌, arith, rules}
+use Rattle.std.proofs.Common.{◌≡◌, ◌-◌, ◌≤◌, ◌||◌, ltb, length, drop}
 use Rattle.common.specs.Lists.{some}
-use Rattle.common.proofs.Loops.{some_start, some_turn, some_end}
-use Rattle.controller.specs.Steps.{some_over_one}
 use Rattle.controller.proofs.some_over_one.Given as goal
 
 abbrev pub invariant-loop-i : goal.invariant-loop-i

@@ -1,15 +1,9 @@
 -- `converting::some_count_runs` meets its contract: what has been seen, with what is still to come, stays the answer.
 -- Assumes nothing.
-use Prim.Native.Nat.{◌-◌, ◌≤◌}
 use native.Mathlib.Omega.{arith}
-use mathlib.Core.Bool.{◌||◌}
-use mathlib.Core.Path.{◌≡◌, sym, ◌∙◌}
-use lib.ListN.{length, drop}
-use Rattle.common.specs.Lists.{some}
+use mathlib.Core.Path.{sym, ◌∙◌}
 use Rattle.common.proofs.Loops.{some_start, some_turn, some_end}
 use Rattle.voter.specs.Counts.{count_runs}
-use Rattle.image.specs.Items.{sensor_count}
-use Rattle.converting.proofs.some_count_runs.Statement.{statement}
 use borrow.Author.Rules.{rules}
 use Rattle.converting.proofs.some_count_runs.Goals as goal
 

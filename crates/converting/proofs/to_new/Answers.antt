@@ -4,7 +4,6 @@ use mathlib.Core.Path.{sym}
 use Rattle.converting.specs.Converting.{to_new_of}
 use Rattle.converting.proofs.Exact.{too_short}
 use Rattle.converting.proofs.Meeting.{new_refused, new_converted}
-use Rattle.converting.proofs.to_new.Statement.{statement}
 use Rattle.converting.proofs.to_new.Goals as goal
 
 pub returns-then-out-lt-NEW : goal.returns-then-out-lt-NEW

@@ -4,7 +4,6 @@ use mathlib.Core.Path.{sym, ◌∙◌}
 use Rattle.converting.specs.Converting.{to_old_of}
 use Rattle.converting.proofs.Exact.{too_short}
 use Rattle.converting.proofs.Meeting.{old_refused, old_counted, old_converted}
-use Rattle.converting.proofs.to_old.Statement.{statement}
 use Rattle.converting.proofs.to_old.Goals as goal
 
 pub returns-then-out-lt-OLD : goal.returns-then-out-lt-OLD

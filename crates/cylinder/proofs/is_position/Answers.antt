@@ -1,6 +1,5 @@
 -- `cylinder::is_position` meets its contract, by what `parts_of` answers.
 -- Assumes nothing.
-use Rattle.std.proofs.Common.{rules}
 use Rattle.cylinder.specs.Moves.{is_position}
 use Rattle.cylinder.proofs.is_position.Goals as goal
 

@@ -1,6 +1,5 @@
 -- `cylinder::is_rate` meets its contract, by what `rate_parts` answers.
 -- Assumes nothing.
-use Rattle.std.proofs.Common.{rules}
 use Rattle.cylinder.specs.Moves.{is_rate}
 use Rattle.cylinder.proofs.is_rate.Goals as goal
 

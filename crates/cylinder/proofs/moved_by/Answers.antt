@@ -1,6 +1,5 @@
 -- `cylinder::moved_by` meets its contract: each arm is one case of the rule.
 -- Assumes nothing.
-use Rattle.std.proofs.Common.{rules}
 use Rattle.cylinder.proofs.moved_by.Goals as goal
 
 pub returns-in-Out : goal.returns-in-Out

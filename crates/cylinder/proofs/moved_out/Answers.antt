@@ -1,6 +1,5 @@
 -- `cylinder::moved_out` meets its contract: by whether the rate is taken. A rate that is taken is at most the fastest, so it fits.
 -- Assumes nothing.
-use Rattle.std.proofs.Common.{rules}
 use mir.Facts.{Fits-below}
 use Rattle.cylinder.specs.Moves.{fastest}
 use Rattle.cylinder.proofs.Taken.{answer_at_most}

@@ -1,7 +1,7 @@
 -- `cylinder::parts_of` meets its contract. The tests on what is scaled leave a whole part of 0 to 16384 and no NaN; by the bits the float is
 -- the one for that whole part, or none. A literal of the code stands by its bits, so the answers unfold `of_bits`.
 -- Assumes nothing.
-use Rattle.std.proofs.Common.{sym, ◌∙◌, arith, rules}
+use Rattle.std.proofs.Common.{sym, ◌∙◌, arith}
 use mir.Facts.{Fits-below}
 use lib.Ieee.{binary32, mul, of_bits}
 use Rattle.cylinder.proofs.Exact.{scale, can_be_cut, no_nan, fraction_no_nan}

@@ -1,6 +1,6 @@
 -- `cylinder::parts_within` meets its contract: each test is one of the rule's.
 -- Assumes nothing.
-use Rattle.std.proofs.Common.{rules, le-leb}
+use Rattle.std.proofs.Common.{le-leb}
 use borrow.Author.Tests.{lt-leb}
 use Rattle.cylinder.proofs.parts_within.Goals as goal
 

@@ -1,6 +1,6 @@
 -- `cylinder::shown_parts` meets its contract: its range lies within the positions'.
 -- Assumes nothing.
-use Rattle.std.proofs.Common.{◌∙◌, lit≤, rules}
+use Rattle.std.proofs.Common.{◌∙◌, lit≤}
 use Rattle.cylinder.specs.Moves.{fastest}
 use Rattle.cylinder.proofs.Taken.{narrowed}
 use Rattle.cylinder.proofs.shown_parts.Goals as goal

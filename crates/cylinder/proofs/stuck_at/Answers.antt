@@ -1,6 +1,5 @@
 -- `cylinder::stuck_at` meets its contract: by whether the position is taken. One that is taken is on the stroke, so it fits.
 -- Assumes nothing.
-use Rattle.std.proofs.Common.{rules}
 use mir.Facts.{Fits-below}
 use Rattle.cylinder.specs.Fractions.{stroke}
 use Rattle.cylinder.proofs.Taken.{answer_at_most}

@@ -1,12 +1,11 @@
 -- `dump::put_changes` meets its contract: after i turns the changes of the first i wires stand there.
 -- Assumes nothing.
-use Prim.Native.Nat.{◌+◌, ◌-◌, ◌*◌, ◌≤◌}
+use Prim.Native.Nat.{◌+◌}
 use native.Mathlib.Omega.{arith}
 use mathlib.Core.Bool.{false}
 use mathlib.Core.Path.{◌≡◌, refl, ap₂, ◌∙◌}
-use lib.ListN.{length, get_or, take}
+use lib.ListN.{length, get_or}
 use lib.Seq.{take_all}
-use Rattle.texts.specs.Puts.{Put}
 use Rattle.texts.proofs.Placing.{then, same_piece, put_nothing}
 use Rattle.dump.specs.Wires.{wires, first_code}
 use Rattle.dump.specs.Dumps.{changes_from}

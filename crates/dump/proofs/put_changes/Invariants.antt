@@ -1,17 +1,11 @@
 -- `dump::put_changes` meets its contract: after i turns the changes of the first i wires stand there.
 -- Assumes nothing.
 use Prim.Native.Nat.{◌+◌, ◌-◌, ◌*◌, ◌≤◌}
-use native.Mathlib.Omega.{arith}
-use mathlib.Core.Bool.{false}
-use mathlib.Core.Path.{◌≡◌, refl, ap₂, ◌∙◌}
-use lib.ListN.{length, get_or, take}
-use lib.Seq.{take_all}
+use mathlib.Core.Path.{◌≡◌}
+use lib.ListN.{length, take}
 use Rattle.texts.specs.Puts.{Put}
-use Rattle.texts.proofs.Placing.{then, same_piece, put_nothing}
 use Rattle.dump.specs.Wires.{wires, first_code}
 use Rattle.dump.specs.Dumps.{changes_from}
-use Rattle.dump.proofs.Lines.{changes_turn, change_length}
-use borrow.Author.Rules.{rules}
 use Rattle.dump.proofs.put_changes.Given as goal
 
 abbrev pub invariant-loop-i : goal.invariant-loop-i

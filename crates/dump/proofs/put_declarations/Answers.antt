@@ -1,15 +1,14 @@
 -- `dump::put_declarations` meets its contract: after i turns the declarations of the first i wires stand there.
 -- Assumes nothing.
-use Prim.Native.Nat.{◌+◌, ◌-◌, ◌≤◌}
+use Prim.Native.Nat.{◌+◌}
 use native.Mathlib.Omega.{arith}
 use mathlib.Core.List.{[]}
-use mathlib.Core.Path.{◌≡◌, refl, ap, ◌∙◌}
+use mathlib.Core.Path.{refl, ap, ◌∙◌}
 use lib.ListN.{length, take, length-append}
 use lib.Seq.{take_all}
 use Rattle.names.specs.Words.{entry}
-use Rattle.texts.specs.Puts.{Put}
 use Rattle.texts.proofs.Placing.{then, same_piece, put_nothing}
-use Rattle.dump.specs.Wires.{wire_names, wires, first_code}
+use Rattle.dump.specs.Wires.{wire_names, first_code}
 use Rattle.dump.specs.Dumps.{lines_from, declaration, declarations}
 use Rattle.dump.proofs.Lines.{names_length, lines_turn, lines_within}
 use Rattle.dump.proofs.put_declarations.Goals as goal

@@ -1,8 +1,7 @@
 -- `dump::put_moment` meets its contract: where nothing changes, and where something does.
 -- Assumes nothing.
 use native.Mathlib.Omega.{arith}
-use mathlib.Core.Bool.{Bool, true, false, not}
-use mathlib.Core.Path.{◌≡◌, refl, sym, ◌∙◌}
+use mathlib.Core.Path.{◌≡◌, sym, ◌∙◌}
 use lib.ListN.{length}
 use Rattle.texts.proofs.Placing.{then}
 use Rattle.dump.specs.Wires.{wires, first_code}

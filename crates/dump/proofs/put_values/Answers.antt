@@ -1,12 +1,10 @@
 -- `dump::put_values` meets its contract: after i turns the values of the first i wires stand there.
 -- Assumes nothing.
-use Prim.Native.Nat.{◌+◌, ◌-◌, ◌*◌, ◌≤◌}
 use native.Mathlib.Omega.{arith}
 use mathlib.Core.Bool.{false}
 use mathlib.Core.Path.{◌≡◌, refl, ap, ◌∙◌}
-use lib.ListN.{length, take}
+use lib.ListN.{length}
 use lib.Seq.{take_all}
-use Rattle.texts.specs.Puts.{Put}
 use Rattle.texts.proofs.Placing.{then, same_piece, put_nothing}
 use Rattle.dump.specs.Wires.{wires, first_code}
 use Rattle.dump.specs.Dumps.{lines_from, value_line, value_lines}

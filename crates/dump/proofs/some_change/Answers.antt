@@ -1,10 +1,9 @@
 -- `dump::some_change` meets its contract: after i turns, whether one of the first i wires changes.
 -- Assumes nothing.
-use Prim.Native.Nat.{◌-◌, ◌≤◌}
 use native.Mathlib.Omega.{arith}
 use mathlib.Core.Path.{◌≡◌, refl, ap, ap₂, ◌∙◌}
 use mathlib.Core.Bool.{Bool, false, not, ◌||◌, beq}
-use lib.ListN.{length, get_or, take}
+use lib.ListN.{length, get_or}
 use lib.Seq.{take_all}
 use Rattle.dump.specs.Wires.{wires}
 use Rattle.dump.specs.Dumps.{some_differ}

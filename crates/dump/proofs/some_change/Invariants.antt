@@ -1,15 +1,10 @@
 -- `dump::some_change` meets its contract: after i turns, whether one of the first i wires changes.
 -- Assumes nothing.
 use Prim.Native.Nat.{◌-◌, ◌≤◌}
-use native.Mathlib.Omega.{arith}
-use mathlib.Core.Path.{◌≡◌, refl, ap, ap₂, ◌∙◌}
-use mathlib.Core.Bool.{Bool, false, not, ◌||◌, beq}
-use lib.ListN.{length, get_or, take}
-use lib.Seq.{take_all}
-use borrow.Author.Rules.{rules}
+use mathlib.Core.Path.{◌≡◌}
+use lib.ListN.{take}
 use Rattle.dump.specs.Wires.{wires}
 use Rattle.dump.specs.Dumps.{some_differ}
-use Rattle.dump.proofs.Lines.{differ_turn}
 use Rattle.dump.proofs.some_change.Given as goal
 
 abbrev pub invariant-loop-i : goal.invariant-loop-i

@@ -1,7 +1,5 @@
 -- `dumping::goes_on` meets its contract: the phase is the run's.
 -- Assumes nothing.
-use Rattle.std.proofs.Common.{rules}
-use Rattle.dumping.proofs.goes_on.Statement.{statement}
 use Rattle.dumping.proofs.goes_on.Goals as goal
 
 pub returns : goal.returns

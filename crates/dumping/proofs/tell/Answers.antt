@@ -1,9 +1,8 @@
 -- `dumping::tell` meets its contract: by what the row came to.
 -- Assumes nothing.
-use Rattle.std.proofs.Common.{ap, ◌∙◌, rules}
+use Rattle.std.proofs.Common.{ap, ◌∙◌}
 use Rattle.dumping.specs.declared.Told.{Told}
 use Rattle.dumping.proofs.Telling.{told_nothing}
-use Rattle.dumping.proofs.tell.Statement.{statement}
 use Rattle.dumping.proofs.tell.Goals as goal
 
 pub returns-in-Nothing : goal.returns-in-Nothing

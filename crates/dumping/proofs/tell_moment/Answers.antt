@@ -3,7 +3,6 @@
 use Rattle.std.proofs.Common.{◌≡◌, ℕ, Bool, List, length, ap, ◌∙◌, ap₂, arith, rules}
 use Rattle.dumping.specs.Parts.{later, in_front}
 use Rattle.dumping.proofs.Telling.{told_by, told_next}
-use Rattle.dumping.proofs.tell_moment.Statement.{statement}
 use borrow.Author.Rules.{rules}
 use Rattle.dumping.proofs.tell_moment.Goals as goal
 

@@ -1,9 +1,8 @@
 -- `dumping::tell_row` meets its contract: row 0, an accepted row, and a refused one.
 -- Assumes nothing.
-use Rattle.std.proofs.Common.{ap, ◌∙◌, rules, eq-eqb, ne_eqb}
+use Rattle.std.proofs.Common.{ap, ◌∙◌, eq-eqb, ne_eqb}
 use Rattle.dumping.specs.declared.Told.{Told}
 use Rattle.dumping.proofs.Telling.{told_nothing}
-use Rattle.dumping.proofs.tell_row.Statement.{statement}
 use Rattle.dumping.proofs.tell_row.Goals as goal
 
 pub returns-then-label-eq0 : goal.returns-then-label-eq0

@@ -5,7 +5,6 @@ use Rattle.dump.specs.Dumps.{head_text}
 use Rattle.dump.specs.Writes.{starts_with}
 use Rattle.dumping.specs.Parts.{in_front}
 use Rattle.dumping.proofs.Telling.{told_by, told_start}
-use Rattle.dumping.proofs.tell_start.Statement.{statement}
 use borrow.Author.Rules.{rules}
 use Rattle.dumping.proofs.tell_start.Goals as goal
 

@@ -1,8 +1,7 @@
 -- `dumping::turn` meets its contract: a call of `take` on what is left of the part and of the output buffer.
 -- Assumes nothing.
-use Rattle.std.proofs.Common.{arith, rules}
+use Rattle.std.proofs.Common.{arith}
 use Rattle.dumping.proofs.Filling.{turned, within}
-use Rattle.dumping.proofs.turn.Statement.{statement}
 use Rattle.dumping.proofs.turn.Goals as goal
 
 pub overflow_add-result : goal.overflow_add-result

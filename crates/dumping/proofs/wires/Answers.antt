@@ -1,9 +1,7 @@
 -- `dumping::wires` meets its contract: what `shown` and `values` promise, one after the other.
 -- Assumes nothing.
-use Rattle.std.proofs.Common.{rules}
 use Rattle.controller.specs.Lamps.{values_of}
 use Rattle.dumping.specs.Moments.{wires_of}
-use Rattle.dumping.proofs.wires.Statement.{statement}
 use Rattle.dumping.proofs.wires.Goals as goal
 
 pub returns : goal.returns

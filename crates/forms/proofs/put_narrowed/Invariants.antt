@@ -1,14 +1,10 @@
 -- `forms::put_narrowed` meets its contract: after i turns the first i sensors stand there.
 -- Assumes nothing.
-use Prim.Native.Nat.{ℕ, ◌-◌, ◌≤◌}
-use native.Mathlib.Omega.{arith}
-use mathlib.Core.Path.{◌≡◌, refl, ap}
+use Prim.Native.Nat.{◌-◌, ◌≤◌}
+use mathlib.Core.Path.{◌≡◌}
 use lib.ListN.{length, drop}
 use Rattle.texts.specs.Puts.{PutIfRoom}
-use Rattle.texts.proofs.Pieces.{nothing, same, and, put as puts}
 use Rattle.forms.specs.Forms.{stamp_bytes, sensors, sensors_narrowed}
-use Rattle.forms.proofs.Turns.{narrowed_turn}
-use borrow.Author.Rules.{rules}
 use Rattle.forms.proofs.put_narrowed.Given as goal
 
 abbrev pub invariant-loop-i : goal.invariant-loop-i

@@ -1,10 +1,9 @@
 -- `forms::put_widened` meets its contract: after i turns the first i sensors stand there.
 -- Assumes nothing.
-use Prim.Native.Nat.{ℕ, ◌-◌, ◌≤◌}
+use Prim.Native.Nat.{ℕ}
 use native.Mathlib.Omega.{arith}
 use mathlib.Core.Path.{◌≡◌, refl, ap}
-use lib.ListN.{length, drop}
-use Rattle.texts.specs.Puts.{PutIfRoom}
+use lib.ListN.{drop}
 use Rattle.texts.proofs.Pieces.{nothing, same, and}
 use Rattle.forms.specs.Forms.{stamp_bytes, sensors, sensors_widened}
 use Rattle.forms.proofs.Turns.{widened_turn}

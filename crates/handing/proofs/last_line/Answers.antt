@@ -2,7 +2,6 @@
 -- Assumes nothing.
 use mathlib.Core.Path.{sym, ap, ◌∙◌}
 use Rattle.handing.specs.Handing.{line_before, last_line}
-use Rattle.handing.proofs.last_line.Statement.{statement}
 use Rattle.handing.proofs.last_line.Goals as goal
 
 pub returns-in-Header : goal.returns-in-Header

@@ -1,7 +1,6 @@
 -- `handing::line_before` meets its contract: by its test.
 -- Assumes nothing.
 use borrow.Author.Tests.{lt-ltb, le-ltb}
-use Rattle.handing.proofs.line_before.Statement.{statement}
 use Rattle.handing.proofs.line_before.Goals as goal
 
 pub returns-then-line-gt2 : goal.returns-then-line-gt2

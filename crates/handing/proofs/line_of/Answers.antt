@@ -2,7 +2,6 @@
 -- Assumes nothing.
 use mathlib.Core.Path.{sym, ap}
 use Rattle.reading.specs.Rows.{line_of}
-use Rattle.handing.proofs.line_of.Statement.{statement}
 use Rattle.handing.proofs.line_of.Goals as goal
 
 pub returns-in-Label : goal.returns-in-Label

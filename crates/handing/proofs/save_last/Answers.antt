@@ -3,7 +3,6 @@
 use mathlib.Core.Path.{sym, ap, ◌∙◌}
 use Rattle.reading.specs.Rows.{has_started}
 use Rattle.handing.proofs.Saving.{with_row_0, without_row_0}
-use Rattle.handing.proofs.save_last.Statement.{statement}
 use Rattle.handing.proofs.save_last.Goals as goal
 
 pub returns-then-has_started : goal.returns-then-has_started

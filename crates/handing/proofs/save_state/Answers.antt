@@ -1,7 +1,6 @@
 -- `handing::save_state` meets its contract: by what saving an image answers.
 -- Assumes nothing.
 use borrow.Author.Tests.{eq-eqb, ne_eqb}
-use Rattle.handing.proofs.save_state.Statement.{statement}
 use Rattle.handing.proofs.save_state.Goals as goal
 
 pub returns-then-refusal-eq0 : goal.returns-then-refusal-eq0

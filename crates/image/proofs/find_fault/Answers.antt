@@ -5,7 +5,6 @@ use mathlib.Core.Logic.◌⊎◌.{inl}
 use mathlib.Core.Path.{ap, ◌∙◌}
 use Rattle.image.specs.Faults.{fault_of}
 use Rattle.image.proofs.EitherForm.{same_fault, fills}
-use Rattle.image.proofs.find_fault.Statement.{statement}
 use Rattle.image.proofs.find_fault.Goals as goal
 
 pub returns-then-image-ne-OLD : goal.returns-then-image-ne-OLD

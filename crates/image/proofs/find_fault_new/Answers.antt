@@ -6,7 +6,6 @@ use Rattle.image.specs.declared.Fault.TheVariants.{Item, Rule}
 use Rattle.image.specs.Rules.{rules}
 use Rattle.image.specs.Faults.{first_broken}
 use Rattle.image.proofs.Faulty.{items_ranged, fault_length, fault_item, fault_rule, fault_nothing}
-use Rattle.image.proofs.find_fault_new.Statement.{statement}
 use Rattle.image.proofs.find_fault_new.Goals as goal
 
 pub returns-then-image-ne-SIZE : goal.returns-then-image-ne-SIZE

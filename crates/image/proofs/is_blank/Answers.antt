@@ -1,15 +1,12 @@
 -- `image::is_blank` meets its contract: what has been looked at, with what is still to come, stays the answer.
 -- Assumes nothing.
-use Prim.Native.Nat.{◌-◌, ◌≤◌}
 use native.Mathlib.Omega.{arith}
 use mathlib.Core.Bool.{Bool, ◌&&◌, and_assoc, and-true}
-use mathlib.Core.Path.{◌≡◌, refl, sym, ap, ◌∙◌}
-use lib.ListN.{length, drop}
+use mathlib.Core.Path.{refl, sym, ap, ◌∙◌}
 use Rattle.image.specs.Xdr.{items_in}
-use Rattle.image.specs.Faults.{all_zero, is_blank}
+use Rattle.image.specs.Faults.{is_blank}
 use Rattle.image.proofs.Fours.{items_length}
 use Rattle.image.proofs.Searching.{zero_turn, zero_end}
-use Rattle.image.proofs.is_blank.Statement.{statement}
 use Rattle.image.proofs.is_blank.Goals as goal
 
 pub loop-k-init : goal.loop-k-init

@@ -1,16 +1,11 @@
 -- `image::is_blank` meets its contract: what has been looked at, with what is still to come, stays the answer.
 -- Assumes nothing.
 use Prim.Native.Nat.{◌-◌, ◌≤◌}
-use native.Mathlib.Omega.{arith}
-use mathlib.Core.Bool.{Bool, ◌&&◌, and_assoc, and-true}
-use mathlib.Core.Path.{◌≡◌, refl, sym, ap, ◌∙◌}
+use mathlib.Core.Bool.{◌&&◌}
+use mathlib.Core.Path.{◌≡◌}
 use lib.ListN.{length, drop}
 use Rattle.image.specs.Xdr.{items_in}
-use Rattle.image.specs.Faults.{all_zero, is_blank}
-use Rattle.image.proofs.Fours.{items_length}
-use Rattle.image.proofs.Searching.{zero_turn, zero_end}
-use borrow.Author.Rules.{rules}
-use Rattle.image.proofs.is_blank.Statement.{statement}
+use Rattle.image.specs.Faults.{all_zero}
 use Rattle.image.proofs.is_blank.Given as goal
 
 abbrev pub invariant-loop-k : goal.invariant-loop-k

@@ -2,7 +2,6 @@
 -- Assumes nothing.
 use mathlib.Core.Path.{sym}
 use Rattle.image.proofs.Reading.{no_item}
-use Rattle.image.proofs.last_stamp.Statement.{statement}
 use Rattle.image.proofs.last_stamp.Goals as goal
 
 pub returns-then-image-lt-ITEM : goal.returns-then-image-lt-ITEM

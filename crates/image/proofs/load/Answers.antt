@@ -7,7 +7,6 @@ use mathlib.Core.Logic.◌⊎◌.{inl}
 use mathlib.Core.Path.{ap, ◌∙◌}
 use Rattle.image.specs.Images.{load_of}
 use Rattle.image.proofs.EitherForm.{same_loading, fills}
-use Rattle.image.proofs.load.Statement.{statement}
 use Rattle.image.proofs.load.Goals as goal
 
 pub returns-then-image-ne-OLD : goal.returns-then-image-ne-OLD

@@ -6,7 +6,6 @@ use Rattle.image.proofs.Faulty.{own_controller}
 use Rattle.image.proofs.Exact.{fitting_is_new, fitting_is_ranged}
 use Rattle.image.proofs.Loading.{load_taken, load_broken, load_unfit}
 use Rattle.image.specs.Rules.{rules_hold}
-use Rattle.image.proofs.load_new.Statement.{statement}
 use Rattle.image.proofs.load_new.Goals as goal
 
 pub state_in-state-requires : goal.state_in-state-requires

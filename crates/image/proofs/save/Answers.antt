@@ -4,7 +4,6 @@ use mathlib.Core.Path.{sym, ◌∙◌}
 use borrow.Author.Tests.{lt-ltb, le-ltb}
 use Rattle.texts.proofs.Placing.{front_next, front_line}
 use Rattle.image.specs.Images.{save_of}
-use Rattle.image.proofs.save.Statement.{statement}
 use Rattle.image.proofs.save.Goals as goal
 
 pub returns-then-out-lt-SIZE : goal.returns-then-out-lt-SIZE

@@ -1,15 +1,13 @@
 -- `lesson::fill` meets its contract. The loop's invariant: the turns that are left come to the answer of the whole part.
 -- Assumes nothing.
-use Prim.Native.Nat.{◌-◌, ◌<◌, ◌≤◌}
+use Prim.Native.Nat.{◌<◌}
 use native.Mathlib.Omega.{arith}
-use mathlib.Core.Path.{◌≡◌, refl, sym, ◌∙◌}
-use lib.ListN.{length}
+use mathlib.Core.Path.{refl, sym, ◌∙◌}
 use Rattle.reading.specs.Fills.{fill_by}
 use Rattle.reading.proofs.Fills as fills
 use Rattle.lesson.specs.Replay.{text_told}
 use Rattle.lesson.specs.Parts.{room, answer_of, fill_of}
 use Rattle.lesson.proofs.Filling.{quiet, again, ends, sent_back}
-use Rattle.lesson.proofs.fill.Statement.{statement}
 use Rattle.lesson.proofs.fill.Goals as goal
 use Rattle.lesson.proofs.fill.Goals.{After-slice_known-in-loop-line-2-1}
 

@@ -1,16 +1,13 @@
 -- `lesson::fill` meets its contract. The loop's invariant: the turns that are left come to the answer of the whole part.
 -- Assumes nothing.
-use Prim.Native.Nat.{◌-◌, ◌<◌, ◌≤◌}
-use native.Mathlib.Omega.{arith}
-use mathlib.Core.Path.{◌≡◌, refl, sym, ◌∙◌}
+use Prim.Native.Nat.{◌-◌, ◌≤◌}
+use mathlib.Core.Path.{◌≡◌}
 use lib.ListN.{length}
-use borrow.Author.Rules.{rules}
 use Rattle.reading.specs.Fills.{fill_by}
 use Rattle.reading.proofs.Fills as fills
 use Rattle.lesson.specs.Replay.{text_told}
-use Rattle.lesson.specs.Parts.{room, answer_of, fill_of}
-use Rattle.lesson.proofs.Filling.{quiet, again, ends, sent_back}
-use Rattle.lesson.proofs.fill.Statement.{statement}
+use Rattle.lesson.specs.Parts.{room, answer_of}
+use Rattle.lesson.proofs.Filling.{quiet}
 use Rattle.lesson.proofs.fill.Given as goal
 
 abbrev pub invariant-loop-line : goal.invariant-loop-line

@@ -4,7 +4,6 @@ use mathlib.Core.Path.{refl}
 use Rattle.reading.specs.Runs.{finish_by}
 use Rattle.lesson.specs.Parts.{finish_of}
 use Rattle.lesson.proofs.Telling.{sent_away, told_in, finished}
-use Rattle.lesson.proofs.finish.Statement.{statement}
 use Rattle.lesson.proofs.finish.Goals as goal
 
 pub returns-then-out-lt-ROOM : goal.returns-then-out-lt-ROOM

@@ -1,6 +1,5 @@
 -- `lesson::goes_on` meets its contract: the phase is the run's.
 -- Assumes nothing.
-use Rattle.lesson.proofs.goes_on.Statement.{statement}
 use Rattle.lesson.proofs.goes_on.Goals as goal
 
 pub returns : goal.returns

@@ -4,7 +4,6 @@ use mathlib.Core.Path.{refl}
 use Rattle.reading.specs.Runs.{take_by}
 use Rattle.lesson.specs.Parts.{take_of}
 use Rattle.lesson.proofs.Telling.{sent_away, told_in, taken}
-use Rattle.lesson.proofs.take.Statement.{statement}
 use Rattle.lesson.proofs.take.Goals as goal
 
 pub returns-then-out-lt-ROOM : goal.returns-then-out-lt-ROOM

@@ -3,7 +3,6 @@
 use native.Mathlib.Omega.{arith}
 use Rattle.output.specs.Rows.{row_text, refusal_text}
 use Rattle.lesson.proofs.Writing.{row_fits, refusal_fits, told_text}
-use Rattle.lesson.proofs.tell.Statement.{statement}
 use borrow.Author.Rules.{rules}
 use Rattle.lesson.proofs.tell.Goals as goal
 

@@ -1,8 +1,6 @@
 -- `lesson::turn` meets its contract: a call of `take` on what is left of the part and of the output buffer.
 -- Assumes nothing.
-use native.Mathlib.Omega.{arith}
 use Rattle.lesson.proofs.Filling.{turned, within}
-use Rattle.lesson.proofs.turn.Statement.{statement}
 use Rattle.lesson.proofs.turn.Goals as goal
 
 pub returns : goal.returns

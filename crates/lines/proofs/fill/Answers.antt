@@ -1,9 +1,8 @@
 -- `lines::fill` meets its contract. The loop's invariant: the rule gives the same at the start as from here on, since each
 -- turn is one line of the rule (`proofs/Steps.antt`), and then what `until_cr` ensures. The measure is what is left of the part.
 -- Assumes nothing.
-use Prim.Native.Nat.{◌+◌, ◌-◌, ◌≤◌}
+use Prim.Native.Nat.{◌+◌}
 use mathlib.Core.List.{◌∷◌}
-use mathlib.Core.Logic.{⊎_elim}
 use mathlib.Core.Path.{◌≡◌, sym, ◌∙◌}
 use native.Mathlib.Omega.{arith}
 use lib.ListN.{length, drop, get_or, length-set}

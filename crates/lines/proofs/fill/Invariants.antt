@@ -1,15 +1,10 @@
 -- `lines::fill` meets its contract. The loop's invariant: the rule gives the same at the start as from here on, since each
 -- turn is one line of the rule (`proofs/Steps.antt`), and then what `until_cr` ensures. The measure is what is left of the part.
 -- Assumes nothing.
-use Prim.Native.Nat.{◌+◌, ◌-◌, ◌≤◌}
-use mathlib.Core.List.{◌∷◌}
-use mathlib.Core.Logic.{⊎_elim}
-use mathlib.Core.Path.{◌≡◌, sym, ◌∙◌}
-use native.Mathlib.Omega.{arith}
-use borrow.Author.Rules.{rules}
-use lib.ListN.{length, drop, get_or, length-set}
+use Prim.Native.Nat.{◌-◌, ◌≤◌}
+use mathlib.Core.Path.{◌≡◌}
+use lib.ListN.{length, drop}
 use Rattle.lines.specs.Cuts.{cut_from}
-use Rattle.lines.proofs.Steps.{OfRow, here, gone, no_cr, no_lf, on_end, on_byte, on_over, held_at, break_at}
 use Rattle.lines.proofs.fill.Given as goal
 
 abbrev pub invariant-loop-at : goal.invariant-loop-at

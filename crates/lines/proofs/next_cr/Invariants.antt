@@ -1,11 +1,8 @@
 -- `lines::next_cr` meets its contract. The loop's invariant: what the search is to find is what is to be found from here on,
 -- since no byte that was passed is a CR (`proofs/Steps.antt`). The measure is what is left in front of `to`.
 -- Assumes nothing.
-use Prim.Native.Nat.{ℕ, ◌+◌, ◌-◌}
-use mathlib.Core.Path.{sym, ◌∙◌}
-use native.Mathlib.Omega.{arith}
-use borrow.Author.Rules.{rules}
-use Rattle.lines.proofs.Steps.{Searched, cr_here, cr_past}
+use Prim.Native.Nat.{◌-◌}
+use Rattle.lines.proofs.Steps.{Searched}
 use Rattle.lines.proofs.next_cr.Given as goal
 
 abbrev pub invariant-loop-i : goal.invariant-loop-i

@@ -1,14 +1,12 @@
 -- `readback::show` meets its contract: after i turns the first i values are shown.
 -- Assumes nothing.
-use Prim.Native.Nat.{◌-◌, ◌≤◌}
 use native.Mathlib.Omega.{arith}
 use mathlib.Core.Path.{◌≡◌, sym, ap, ◌∙◌}
-use lib.ListN.{length, take, length-set}
+use lib.ListN.{length, length-set}
 use lib.Seq.{take_all}
 use Rattle.dump.specs.Wires.{wires}
 use Rattle.readback.specs.Reads.{bits}
 use Rattle.readback.proofs.Turns.{shown_turn}
-use Rattle.readback.proofs.show.Statement.{statement}
 use borrow.Author.Rules.{rules}
 use Rattle.readback.proofs.show.Goals as goal
 

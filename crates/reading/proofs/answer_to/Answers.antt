@@ -2,7 +2,6 @@
 -- Assumes nothing.
 use borrow.Author.Tests.{eq-eqb, ne_eqb}
 use Rattle.reading.specs.Rows.{answer_to}
-use Rattle.reading.proofs.answer_to.Statement.{statement}
 use Rattle.reading.proofs.answer_to.Goals as goal
 
 pub returns-then-label-eq0 : goal.returns-then-label-eq0

@@ -2,7 +2,6 @@
 -- Assumes nothing.
 use mathlib.Core.Path.{refl}
 use Rattle.reading.specs.Rows.{ends_at}
-use Rattle.reading.proofs.ends_at.Statement.{statement}
 use Rattle.reading.proofs.ends_at.Goals as goal
 
 pub returns : goal.returns

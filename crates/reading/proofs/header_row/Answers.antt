@@ -2,7 +2,6 @@
 -- Assumes nothing.
 use borrow.Author.Tests.{lt-ltb, le-ltb}
 use Rattle.reading.specs.Rows.{header_row}
-use Rattle.reading.proofs.header_row.Statement.{statement}
 use Rattle.reading.proofs.header_row.Goals as goal
 
 pub returns-then-row-gt-LINE : goal.returns-then-row-gt-LINE

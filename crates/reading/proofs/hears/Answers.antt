@@ -2,12 +2,11 @@
 -- Assumes nothing.
 use Prim.Native.Nat.{ℕ, ◌≤◌}
 use native.Mathlib.Omega.{arith}
-use lib.ListN.{length, length-take}
+use lib.ListN.{length-take}
 use Rattle.reading.specs.Parts.{Fits}
 use Rattle.reading.specs.declared.Found.{Found}
 use Rattle.reading.specs.declared.Found.TheVariants.{Whole}
 use mathlib.Core.Path.{◌≡◌}
-use Rattle.reading.proofs.hears.Statement.{statement}
 use Rattle.reading.proofs.hears.Goals as goal
 
 -- A row that is whole lies in the line.

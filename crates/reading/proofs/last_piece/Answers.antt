@@ -1,6 +1,5 @@
 -- `reading::last_piece` meets its contract: by what the end of the input leaves.
 -- Assumes nothing.
-use Rattle.reading.proofs.last_piece.Statement.{statement}
 use Rattle.reading.proofs.last_piece.Goals as goal
 
 pub returns-in-Nothing : goal.returns-in-Nothing

@@ -1,7 +1,6 @@
 -- `reading::next_due` meets its contract: each return is a line of the rule with its test told.
 -- Assumes nothing.
 use borrow.Author.Tests.{lt-ltb, le-ltb}
-use Rattle.reading.proofs.next_due.Statement.{statement}
 use Rattle.reading.proofs.next_due.Goals as goal
 
 pub returns-then-n-lt4294967295 : goal.returns-then-n-lt4294967295

@@ -1,6 +1,5 @@
 -- `reading::piece_of` meets its contract: by what cutting answers.
 -- Assumes nothing.
-use Rattle.reading.proofs.piece_of.Statement.{statement}
 use Rattle.reading.proofs.piece_of.Goals as goal
 
 pub returns-in-Row : goal.returns-in-Row

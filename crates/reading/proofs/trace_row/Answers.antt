@@ -1,7 +1,6 @@
 -- `reading::trace_row` meets its contract: by what the row reader answers.
 -- Assumes nothing.
 use Rattle.reading.specs.Rows.{shown_row, no_sample, trace_row}
-use Rattle.reading.proofs.trace_row.Statement.{statement}
 use Rattle.reading.proofs.trace_row.Goals as goal
 
 pub returns-in-Taken : goal.returns-in-Taken

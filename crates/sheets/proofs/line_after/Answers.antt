@@ -1,8 +1,7 @@
 -- `sheets::line_after` meets its contract: an LF, and any other byte.
 -- Assumes nothing.
-use Rattle.std.proofs.Common.{rules, eq-eqb, ne_eqb}
+use Rattle.std.proofs.Common.{eq-eqb, ne_eqb}
 use Rattle.common.specs.Ascii.{lf}
-use Rattle.sheets.proofs.line_after.Statement.{statement}
 use Rattle.sheets.proofs.line_after.Goals as goal
 
 pub returns-then-b-eq10 : goal.returns-then-b-eq10

@@ -1,9 +1,8 @@
 -- `sheets::line_behind` meets its contract: after i turns the line is the one behind i bytes.
 -- Assumes nothing.
-use Rattle.std.proofs.Common.{◌≡◌, ℕ, ◌-◌, ◌≤◌, get_or, take, sym, ap, ◌∙◌, arith, rules}
+use Rattle.std.proofs.Common.{◌≡◌, ℕ, get_or, take, sym, ap, ◌∙◌, arith}
 use Rattle.sheets.specs.Runs.{line_after, line_behind}
 use Rattle.sheets.proofs.Counting.{line_turn, no_line}
-use Rattle.sheets.proofs.line_behind.Statement.{statement}
 use Rattle.sheets.proofs.line_behind.Goals as goal
 
 pub loop-i-init : goal.loop-i-init

@@ -1,9 +1,7 @@
 -- `sheets::line_behind` meets its contract: after i turns the line is the one behind i bytes.
 -- Assumes nothing.
-use Rattle.std.proofs.Common.{◌≡◌, ℕ, ◌-◌, ◌≤◌, get_or, take, sym, ap, ◌∙◌, arith, rules}
-use Rattle.sheets.specs.Runs.{line_after, line_behind}
-use Rattle.sheets.proofs.Counting.{line_turn, no_line}
-use Rattle.sheets.proofs.line_behind.Statement.{statement}
+use Rattle.std.proofs.Common.{◌≡◌, ◌-◌, ◌≤◌, take}
+use Rattle.sheets.specs.Runs.{line_behind}
 use Rattle.sheets.proofs.line_behind.Given as goal
 
 abbrev pub invariant-loop-i : goal.invariant-loop-i

@@ -4,7 +4,6 @@ use Rattle.std.proofs.Common.{◌≡◌, length, arith, rules}
 use Rattle.texts.proofs.Placing.{did_put}
 use Rattle.dump.specs.Wires.{wires}
 use Rattle.sheets.proofs.Fields.{row_length}
-use Rattle.sheets.proofs.row_at.Statement.{statement}
 use borrow.Author.Rules.{rules}
 use Rattle.sheets.proofs.row_at.Goals as goal
 

@@ -1,6 +1,5 @@
 -- `table::table_number` meets its contract: after n turns the first n entries are added up.
 -- Assumes nothing.
-use Prim.Native.Nat.{◌-◌, ◌*◌, ◌≤◌}
 use native.Mathlib.Omega.{arith}
 use mathlib.Core.Path.{◌≡◌, sym, ap, ◌∙◌}
 use Rattle.table.specs.Table.{entries}

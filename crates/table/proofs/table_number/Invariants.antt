@@ -1,11 +1,9 @@
 -- `table::table_number` meets its contract: after n turns the first n entries are added up.
 -- Assumes nothing.
 use Prim.Native.Nat.{◌-◌, ◌*◌, ◌≤◌}
-use native.Mathlib.Omega.{arith}
-use mathlib.Core.Path.{◌≡◌, sym, ap, ◌∙◌}
+use mathlib.Core.Path.{◌≡◌}
 use Rattle.table.specs.Table.{entries}
-use Rattle.table.proofs.Weights.{sum_of, no_entries, sum_turn, all_entries_summed, weighed_to}
-use borrow.Author.Rules.{rules}
+use Rattle.table.proofs.Weights.{sum_of}
 use Rattle.table.proofs.table_number.Given as goal
 
 abbrev pub invariant-loop-n : goal.invariant-loop-n

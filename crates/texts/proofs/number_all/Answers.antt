@@ -1,25 +1,24 @@
 -- `texts::number_all` meets its contract. The loop's invariant: with the digits of what is left put in front of place i, the line is
 -- what it is to be. A turn puts one digit there, and leaves those of the tenth.
 -- Assumes nothing.
-use Prim.Native.Nat.{ℕ, ◌+◌, ◌≤◌, ◌<◌, ◌^◌}
+use Prim.Native.Nat.{ℕ, ◌+◌}
 use native.Mathlib.Omega.{arith}
 use mathlib.Core.List.{◌++◌}
-use mathlib.Core.Path.{◌≡◌, refl, ap, ◌∙◌}
+use mathlib.Core.Path.{refl, ap, ◌∙◌}
 use lib.ListN.{length, take, drop, length-set}
 use Rattle.common.specs.Decimal.{decimal}
 use Rattle.common.proofs.Decimals.{decimal_one, one_more}
-use Rattle.texts.proofs.Placing.{placed, put_placed, last_digit_put, only_digit_put}
+use Rattle.texts.proofs.Placing.{put_placed, last_digit_put, only_digit_put}
 use Rattle.texts.proofs.number_all.Goals as goal
 
 pub loop-rest-init : goal.loop-rest-init
-loop-rest-init c =
-    (
-      omega arith,
-      omega arith,
-      omega arith,
-      refl,
-      ap (λ (k : ℕ). take c.args.at c.args.line.now ++ decimal c.args.n ++ drop (c.args.at + k) c.args.line.now) c.requires.0,
-    )
+loop-rest-init c = (
+  omega arith,
+  omega arith,
+  omega arith,
+  refl,
+  ap (λ (k : ℕ). take c.args.at c.args.line.now ++ decimal c.args.n ++ drop (c.args.at + k) c.args.line.now) c.requires.0,
+)
 
 pub overflow_sub-i : goal.overflow_sub-i
 overflow_sub-i c = omega (arith, one_more c.loop-rest.rest (omega arith) (omega arith))

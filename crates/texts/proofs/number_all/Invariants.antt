@@ -1,15 +1,12 @@
 -- `texts::number_all` meets its contract. The loop's invariant: with the digits of what is left put in front of place i, the line is
 -- what it is to be. A turn puts one digit there, and leaves those of the tenth.
 -- Assumes nothing.
-use Prim.Native.Nat.{ℕ, ◌+◌, ◌≤◌, ◌<◌, ◌^◌}
-use native.Mathlib.Omega.{arith}
+use Prim.Native.Nat.{◌+◌, ◌≤◌, ◌<◌, ◌^◌}
 use mathlib.Core.List.{◌++◌}
-use mathlib.Core.Path.{◌≡◌, refl, ap, ◌∙◌}
-use lib.ListN.{length, take, drop, length-set}
-use borrow.Author.Rules.{rules}
+use mathlib.Core.Path.{◌≡◌}
+use lib.ListN.{length, take, drop}
 use Rattle.common.specs.Decimal.{decimal}
-use Rattle.common.proofs.Decimals.{decimal_one, one_more}
-use Rattle.texts.proofs.Placing.{placed, put_placed, last_digit_put, only_digit_put}
+use Rattle.texts.proofs.Placing.{placed}
 use Rattle.texts.proofs.number_all.Given as goal
 
 abbrev pub invariant-loop-rest : goal.invariant-loop-rest

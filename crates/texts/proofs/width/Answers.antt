@@ -1,10 +1,8 @@
 -- `texts::width` meets its contract: the digits counted and those of what is left make one more than the number has.
 -- Assumes nothing.
-use Prim.Native.Nat.{◌+◌, ◌≤◌, ◌^◌, ◌<◌}
 use native.Mathlib.Omega.{arith}
-use mathlib.Core.Path.{◌≡◌, ap}
+use mathlib.Core.Path.{ap}
 use lib.ListN.{length}
-use Rattle.common.specs.Decimal.{decimal}
 use Rattle.common.proofs.Decimals.{decimal_one, one_more, decimal_length}
 use Rattle.texts.proofs.width.Goals as goal
 

@@ -1,11 +1,9 @@
 -- `texts::width` meets its contract: the digits counted and those of what is left make one more than the number has.
 -- Assumes nothing.
 use Prim.Native.Nat.{◌+◌, ◌≤◌, ◌^◌, ◌<◌}
-use native.Mathlib.Omega.{arith}
-use mathlib.Core.Path.{◌≡◌, ap}
+use mathlib.Core.Path.{◌≡◌}
 use lib.ListN.{length}
 use Rattle.common.specs.Decimal.{decimal}
-use Rattle.common.proofs.Decimals.{decimal_one, one_more, decimal_length}
 use Rattle.texts.proofs.width.Given as goal
 
 abbrev pub invariant-loop-rest : goal.invariant-loop-rest

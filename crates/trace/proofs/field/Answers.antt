@@ -1,11 +1,9 @@
 -- `trace::field` meets its contract. The loop's invariant: the bytes from `at` to `end` belong to the field. The field ends at the
 -- comma that is met, or at the row's end.
 -- Assumes nothing.
-use mathlib.Core.Path.{◌≡◌, refl}
-use Prim.Native.Nat.{◌≤◌, ◌-◌}
+use mathlib.Core.Path.{refl}
 use native.Mathlib.Omega.{arith}
-use lib.ListN.{length, drop}
-use Rattle.trace.proofs.Fields.{Within, starts, passes, stops, runs_out, past_end, is_part}
+use Rattle.trace.proofs.Fields.{starts, passes, stops, runs_out, past_end, is_part}
 use Rattle.trace.proofs.field.Goals as goal
 
 pub returns-then-size-at : goal.returns-then-size-at

@@ -1,12 +1,10 @@
 -- `trace::field` meets its contract. The loop's invariant: the bytes from `at` to `end` belong to the field. The field ends at the
 -- comma that is met, or at the row's end.
 -- Assumes nothing.
-use mathlib.Core.Path.{◌≡◌, refl}
+use mathlib.Core.Path.{◌≡◌}
 use Prim.Native.Nat.{◌≤◌, ◌-◌}
-use native.Mathlib.Omega.{arith}
-use borrow.Author.Rules.{rules}
 use lib.ListN.{length, drop}
-use Rattle.trace.proofs.Fields.{Within, starts, passes, stops, runs_out, past_end, is_part}
+use Rattle.trace.proofs.Fields.{Within}
 use Rattle.trace.proofs.field.Given as goal
 
 abbrev pub invariant-loop-end : goal.invariant-loop-end

@@ -1,12 +1,10 @@
 -- `trace::read_number` meets its contract. The loop's invariant: the field is the number that its digits come to if they are read on from
 -- the value of those that were read, which is not too great.
 -- Assumes nothing.
-use mathlib.Core.Path.{◌≡◌, refl, sym, ◌∙◌}
-use Prim.Native.Nat.{◌≤◌, ◌-◌}
+use mathlib.Core.Path.{refl, sym, ◌∙◌}
 use native.Mathlib.Omega.{arith}
 use borrow.Author.Tests.{eq-eqb, ne_eqb}
-use lib.ListN.{length, drop}
-use Rattle.trace.specs.Numbers.{greatest, digits_from, number_of}
+use Rattle.trace.specs.Numbers.{number_of}
 use Rattle.trace.proofs.Digits.{too_great, one_digit, below_digits, above_digits, all_read}
 use Rattle.trace.proofs.read_number.Goals as goal
 

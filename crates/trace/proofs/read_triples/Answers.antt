@@ -3,13 +3,13 @@
 -- Assumes nothing.
 use mathlib.Core.Path.{◌≡◌, sym, ◌∙◌, ap}
 use mathlib.Core.List.{[], ◌∷◌}
-use Prim.Native.Nat.{◌+◌, ◌≤◌, ◌-◌, ◌*◌}
+use Prim.Native.Nat.{◌+◌, ◌≤◌, ◌*◌}
 use native.Mathlib.Omega.{arith}
 use lib.ListN.{length, take, drop, length-set, length-drop}
 use Rattle.common.specs.Answers.{gives}
 use Rattle.trace.specs.Answers.{triple_says}
 use Rattle.trace.specs.Numbers.{triple_of}
-use Rattle.trace.specs.Rows.{up_to_comma, fields_from, joined, triples_of}
+use Rattle.trace.specs.Rows.{up_to_comma, fields_from, triples_of}
 use Rattle.trace.proofs.Fields.{field_length}
 use Rattle.trace.proofs.Triples.{triple_within, joined_nil, turn_refused, turn_taken, all_taken}
 use borrow.Author.Rules.{rules}

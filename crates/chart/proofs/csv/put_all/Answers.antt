@@ -1,15 +1,13 @@
 -- `chart::csv::put_all` meets its contract: the header, and after n turns the rows of the first n entries.
 -- Assumes nothing.
-use Prim.Native.Nat.{ℕ, ◌-◌, ◌≤◌}
+use Prim.Native.Nat.{ℕ}
 use native.Mathlib.Omega.{arith}
 use mathlib.Core.List.{flatten}
 use mathlib.Core.Path.{◌≡◌, refl, ap}
-use lib.ListN.{length}
 use Rattle.common.specs.Lists.{given_from}
 use Rattle.common.proofs.Given.{text_turn}
 use Rattle.common.specs.Ascii.{joined_by_commas}
 use Rattle.chart.specs.Csv.{csv_header, csv_row, csv_text}
-use Rattle.texts.specs.Puts.{PutIfRoom}
 use Rattle.texts.proofs.Pieces.{nothing, same, put, and}
 use Rattle.chart.proofs.csv.put_all.Goals as goal
 

@@ -1,17 +1,12 @@
 -- `chart::csv::put_all` meets its contract: the header, and after n turns the rows of the first n entries.
 -- Assumes nothing.
-use Prim.Native.Nat.{ℕ, ◌-◌, ◌≤◌}
-use native.Mathlib.Omega.{arith}
+use Prim.Native.Nat.{◌-◌, ◌≤◌}
 use mathlib.Core.List.{flatten}
-use mathlib.Core.Path.{◌≡◌, refl, ap}
+use mathlib.Core.Path.{◌≡◌}
 use lib.ListN.{length}
 use Rattle.common.specs.Lists.{given_from}
-use Rattle.common.proofs.Given.{text_turn}
-use Rattle.common.specs.Ascii.{joined_by_commas}
-use Rattle.chart.specs.Csv.{csv_header, csv_row, csv_text}
+use Rattle.chart.specs.Csv.{csv_row}
 use Rattle.texts.specs.Puts.{PutIfRoom}
-use Rattle.texts.proofs.Pieces.{nothing, same, put, and}
-use borrow.Author.Rules.{rules}
 use Rattle.chart.proofs.csv.put_all.Given as goal
 
 abbrev pub invariant-loop-n : goal.invariant-loop-n

@@ -1,6 +1,5 @@
 -- `chart::differences::differs` meets its contract: after n turns the first n entries of the place are compared.
 -- Assumes nothing.
-use Prim.Native.Nat.{◌-◌, ◌≤◌}
 use native.Mathlib.Omega.{arith}
 use native.Mathlib.Numerals.{add-one}
 use mathlib.Core.Path.{◌≡◌, refl, ap, ◌∙◌}

@@ -1,11 +1,8 @@
 -- `chart::differences::differs` meets its contract: after n turns the first n entries of the place are compared.
 -- Assumes nothing.
 use Prim.Native.Nat.{◌-◌, ◌≤◌}
-use native.Mathlib.Omega.{arith}
-use native.Mathlib.Numerals.{add-one}
-use mathlib.Core.Path.{◌≡◌, refl, ap, ◌∙◌}
-use Rattle.chart.specs.Differences.{some_changed, differs}
-use borrow.Author.Rules.{rules}
+use mathlib.Core.Path.{◌≡◌}
+use Rattle.chart.specs.Differences.{some_changed}
 use Rattle.chart.proofs.differences.differs.Given as goal
 
 abbrev pub invariant-loop-n : goal.invariant-loop-n

@@ -1,14 +1,12 @@
 -- `chart::page::put_air` meets its contract: the headings of both handles, and after k turns the first k places.
 -- Assumes nothing.
-use Prim.Native.Nat.{ℕ, ◌-◌, ◌≤◌}
+use Prim.Native.Nat.{ℕ}
 use native.Mathlib.Omega.{arith}
 use mathlib.Core.List.{flatten}
 use mathlib.Core.Path.{◌≡◌, refl, ap}
-use lib.ListN.{length}
 use Rattle.common.specs.Lists.{given_from}
 use Rattle.common.proofs.Given.{text_turn}
 use Rattle.chart.specs.Page.{air_text, air_part}
-use Rattle.texts.specs.Puts.{PutIfRoom}
 use Rattle.texts.proofs.Pieces.{nothing, same, and}
 use Rattle.chart.proofs.page.put_air.Goals as goal
 

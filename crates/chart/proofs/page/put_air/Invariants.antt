@@ -1,16 +1,12 @@
 -- `chart::page::put_air` meets its contract: the headings of both handles, and after k turns the first k places.
 -- Assumes nothing.
-use Prim.Native.Nat.{ℕ, ◌-◌, ◌≤◌}
-use native.Mathlib.Omega.{arith}
+use Prim.Native.Nat.{◌-◌, ◌≤◌}
 use mathlib.Core.List.{flatten}
-use mathlib.Core.Path.{◌≡◌, refl, ap}
+use mathlib.Core.Path.{◌≡◌}
 use lib.ListN.{length}
 use Rattle.common.specs.Lists.{given_from}
-use Rattle.common.proofs.Given.{text_turn}
-use Rattle.chart.specs.Page.{air_text, air_part}
+use Rattle.chart.specs.Page.{air_text}
 use Rattle.texts.specs.Puts.{PutIfRoom}
-use Rattle.texts.proofs.Pieces.{nothing, same, and}
-use borrow.Author.Rules.{rules}
 use Rattle.chart.proofs.page.put_air.Given as goal
 
 abbrev pub invariant-loop-k : goal.invariant-loop-k

@@ -1,14 +1,12 @@
 -- `chart::page::put_ground` meets its contract: the headings, and after k turns what is shown of the first k places on ground.
 -- Assumes nothing.
-use Prim.Native.Nat.{ℕ, ◌-◌, ◌≤◌}
+use Prim.Native.Nat.{ℕ}
 use native.Mathlib.Omega.{arith}
 use mathlib.Core.List.{flatten}
 use mathlib.Core.Path.{◌≡◌, refl, ap}
-use lib.ListN.{length}
 use Rattle.common.specs.Lists.{given_from}
 use Rattle.common.proofs.Given.{text_turn}
 use Rattle.chart.specs.Page.{ground_text, ground_part}
-use Rattle.texts.specs.Puts.{PutIfRoom}
 use Rattle.texts.proofs.Pieces.{nothing, same, and}
 use Rattle.chart.proofs.page.put_ground.Goals as goal
 

@@ -1,16 +1,12 @@
 -- `chart::page::put_ground` meets its contract: the headings, and after k turns what is shown of the first k places on ground.
 -- Assumes nothing.
-use Prim.Native.Nat.{ℕ, ◌-◌, ◌≤◌}
-use native.Mathlib.Omega.{arith}
+use Prim.Native.Nat.{◌-◌, ◌≤◌}
 use mathlib.Core.List.{flatten}
-use mathlib.Core.Path.{◌≡◌, refl, ap}
+use mathlib.Core.Path.{◌≡◌}
 use lib.ListN.{length}
 use Rattle.common.specs.Lists.{given_from}
-use Rattle.common.proofs.Given.{text_turn}
-use Rattle.chart.specs.Page.{ground_text, ground_part}
+use Rattle.chart.specs.Page.{ground_text}
 use Rattle.texts.specs.Puts.{PutIfRoom}
-use Rattle.texts.proofs.Pieces.{nothing, same, and}
-use borrow.Author.Rules.{rules}
 use Rattle.chart.proofs.page.put_ground.Given as goal
 
 abbrev pub invariant-loop-k : goal.invariant-loop-k

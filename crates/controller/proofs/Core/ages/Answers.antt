@@ -1,7 +1,6 @@
 -- `controller::Core::ages` meets its contract.
 -- Assumes nothing.
 use Rattle.controller.specs.Stages.{core_ages}
-use Rattle.std.proofs.Common.{rules}
 use Rattle.controller.proofs.Core.ages.Goals as goal
 
 pub returns : goal.returns

@@ -1,7 +1,6 @@
 -- `controller::Core::monitors` meets its contract: by whether there is an anomaly already.
 -- Assumes nothing.
 use Rattle.controller.specs.Stages.{core_monitors}
-use Rattle.std.proofs.Common.{rules}
 use Rattle.controller.proofs.Core.monitors.Goals as goal
 
 pub returns-then-anomaly : goal.returns-then-anomaly

@@ -1,7 +1,6 @@
 -- `controller::Core::orders` meets its contract.
 -- Assumes nothing.
 use Rattle.controller.specs.Stages.{core_orders}
-use Rattle.std.proofs.Common.{rules}
 use Rattle.controller.proofs.Core.orders.Goals as goal
 
 pub returns : goal.returns

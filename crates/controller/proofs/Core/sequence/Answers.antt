@@ -1,7 +1,6 @@
 -- `controller::Core::sequence` meets its contract: by whether there is an anomaly.
 -- Assumes nothing.
 use Rattle.controller.specs.Stages.{core_sequence}
-use Rattle.std.proofs.Common.{rules}
 use Rattle.controller.proofs.Core.sequence.Goals as goal
 
 pub returns-then-anomaly : goal.returns-then-anomaly

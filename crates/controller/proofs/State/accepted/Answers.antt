@@ -1,7 +1,6 @@
 -- `controller::State::accepted` meets its contract: the stages in their order.
 -- Assumes nothing.
 use Rattle.controller.specs.Stages.{accepted}
-use Rattle.std.proofs.Common.{rules}
 use Rattle.controller.proofs.State.accepted.Goals as goal
 
 pub returns : goal.returns

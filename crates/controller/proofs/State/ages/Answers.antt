@@ -1,7 +1,6 @@
 -- `controller::State::ages` meets its contract.
 -- Assumes nothing.
 use Rattle.controller.specs.Stages.{ages_stage}
-use Rattle.std.proofs.Common.{rules}
 use Rattle.controller.proofs.State.ages.Goals as goal
 
 pub returns : goal.returns

@@ -1,7 +1,6 @@
 -- `controller::State::fresh` meets its contract.
 -- Assumes nothing.
 use Rattle.controller.specs.Start.{fresh_core, fresh_of}
-use Rattle.std.proofs.Common.{rules}
 use Rattle.controller.proofs.State.fresh.Goals as goal
 
 pub returns : goal.returns

@@ -1,7 +1,6 @@
 -- `controller::State::lights` meets its contract.
 -- Assumes nothing.
 use Rattle.controller.specs.Lamps.{lights_of}
-use Rattle.std.proofs.Common.{rules}
 use Rattle.controller.proofs.State.lights.Goals as goal
 
 pub returns : goal.returns

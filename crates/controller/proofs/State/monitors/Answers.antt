@@ -1,7 +1,6 @@
 -- `controller::State::monitors` meets its contract.
 -- Assumes nothing.
 use Rattle.controller.specs.Stages.{monitors_stage}
-use Rattle.std.proofs.Common.{rules}
 use Rattle.controller.proofs.State.monitors.Goals as goal
 
 pub returns : goal.returns

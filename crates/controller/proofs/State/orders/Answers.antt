@@ -1,7 +1,6 @@
 -- `controller::State::orders` meets its contract.
 -- Assumes nothing.
 use Rattle.controller.specs.Stages.{orders_stage}
-use Rattle.std.proofs.Common.{rules}
 use Rattle.controller.proofs.State.orders.Goals as goal
 
 pub returns : goal.returns

@@ -1,7 +1,6 @@
 -- `controller::State::shown` meets its contract.
 -- Assumes nothing.
 use Rattle.controller.specs.Lamps.{shown_of}
-use Rattle.std.proofs.Common.{rules}
 use Rattle.controller.proofs.State.shown.Goals as goal
 
 pub returns : goal.returns

@@ -1,7 +1,7 @@
 -- `controller::State::step` meets its contract: each return by the tests that led there.
 -- Assumes nothing.
 use Rattle.controller.specs.Steps.{refusal_at, step_at}
-use Rattle.std.proofs.Common.{rules, le-ltb, lt-ltb, eq-eqb, ne_eqb}
+use Rattle.std.proofs.Common.{le-ltb, lt-ltb, eq-eqb, ne_eqb}
 use Rattle.controller.proofs.State.step.Goals as goal
 
 pub returns-then-sample-ne54 : goal.returns-then-sample-ne54

@@ -1,11 +1,9 @@
 -- `controller::State::values` meets its contract: after i turns the first i values are the sensors'.
 -- Assumes nothing.
-use Rattle.std.proofs.Common.{◌≡◌, ℕ, ◌-◌, ◌<◌, ◌≤◌, Bool, false, List, length, set, replicate, refl, ◌∙◌, ap₂, arith, rules}
-use Rattle.common.specs.Lists.{each_from}
-use Rattle.common.proofs.Loops.{up_to, up_to_turn, up_to_all}
+use Rattle.std.proofs.Common.{◌≡◌, ℕ, ◌-◌, ◌≤◌, Bool, false, List, replicate}
+use Rattle.common.proofs.Loops.{up_to}
 use Rattle.voter.specs.declared.Voter.{Voter}
 use Rattle.controller.specs.Votes.{sensor}
-use Rattle.controller.specs.Lamps.{values_of}
 use Rattle.controller.proofs.State.values.Given as goal
 
 -- What the values are to be: at place k the value of sensor k.

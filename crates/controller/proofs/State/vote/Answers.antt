@@ -1,7 +1,6 @@
 -- `controller::State::vote` meets its contract.
 -- Assumes nothing.
 use Rattle.controller.specs.Stages.{turned, vote_stage}
-use Rattle.std.proofs.Common.{rules}
 use Rattle.controller.proofs.State.vote.Goals as goal
 
 pub returns : goal.returns

@@ -1,7 +1,6 @@
 -- `controller::lamps::green` meets its contract: all three gears voted extended.
 -- Assumes nothing.
 use Rattle.controller.specs.Lamps.{green_of}
-use Rattle.std.proofs.Common.{rules}
 use Rattle.controller.proofs.lamps.green.Goals as goal
 
 pub returns : goal.returns

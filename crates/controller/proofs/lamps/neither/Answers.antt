@@ -1,7 +1,6 @@
 -- `controller::lamps::neither` meets its contract: both sensors of the gear.
 -- Assumes nothing.
 use Rattle.controller.specs.Lamps.{neither_at}
-use Rattle.std.proofs.Common.{rules}
 use Rattle.controller.proofs.lamps.neither.Goals as goal
 
 pub returns : goal.returns

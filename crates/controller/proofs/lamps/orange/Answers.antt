@@ -1,7 +1,6 @@
 -- `controller::lamps::orange` meets its contract: the doors, then gear by gear.
 -- Assumes nothing.
 use Rattle.controller.specs.Lamps.{orange_of}
-use Rattle.std.proofs.Common.{rules}
 use Rattle.controller.proofs.lamps.orange.Goals as goal
 
 pub returns : goal.returns

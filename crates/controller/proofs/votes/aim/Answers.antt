@@ -1,7 +1,6 @@
 -- `controller::votes::aim` meets its contract: by the voted handle.
 -- Assumes nothing.
 use Rattle.controller.specs.Votes.{aimed}
-use Rattle.std.proofs.Common.{rules}
 use Rattle.controller.proofs.votes.aim.Goals as goal
 
 pub returns-then-value_at : goal.returns-then-value_at

@@ -1,7 +1,7 @@
 -- `controller::votes::all_voted` meets its contract: after i turns the first i sensors have voted.
 -- Assumes nothing.
-use Rattle.std.proofs.Common.{◌≡◌, ◌-◌, ◌<◌, ◌≤◌, List, length, get_or, set, refl, ap, ◌∙◌, ap₂, arith, rules}
-use Rattle.common.proofs.Loops.{up_to, up_to_next, up_to_turn, up_to_all}
+use Rattle.std.proofs.Common.{◌<◌, ◌≤◌, List, length, get_or, set, refl, ap, ◌∙◌, ap₂, arith, rules}
+use Rattle.common.proofs.Loops.{up_to_next, up_to_turn, up_to_all}
 use Rattle.voter.specs.declared.Voter.{Voter}
 use Rattle.controller.specs.Votes.{votes_at, all_voted}
 use borrow.Author.Rules.{rules}

@@ -1,7 +1,6 @@
 -- `controller::votes::on_ground` meets its contract.
 -- Assumes nothing.
 use Rattle.controller.specs.Votes.{three_from, on_ground}
-use Rattle.std.proofs.Common.{rules}
 use Rattle.controller.proofs.votes.on_ground.Goals as goal
 
 pub returns : goal.returns

@@ -1,7 +1,6 @@
 -- `controller::votes::seen` meets its contract.
 -- Assumes nothing.
 use Rattle.controller.specs.Votes.{sight_of, seen_of}
-use Rattle.std.proofs.Common.{rules}
 use Rattle.controller.proofs.votes.seen.Goals as goal
 
 pub returns : goal.returns

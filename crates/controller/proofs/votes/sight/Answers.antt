@@ -1,7 +1,6 @@
 -- `controller::votes::sight` meets its contract.
 -- Assumes nothing.
 use Rattle.controller.specs.Votes.{sight_of}
-use Rattle.std.proofs.Common.{rules}
 use Rattle.controller.proofs.votes.sight.Goals as goal
 
 pub returns : goal.returns

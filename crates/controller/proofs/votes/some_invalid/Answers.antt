@@ -1,7 +1,6 @@
 -- `controller::votes::some_invalid` meets its contract: what has been seen, with what is still to come, stays the answer.
 -- Assumes nothing.
-use Rattle.std.proofs.Common.{◌≡◌, ◌-◌, ◌<◌, ◌≤◌, ◌||◌, length, drop, sym, ◌∙◌, arith, rules}
-use Rattle.common.specs.Lists.{some}
+use Rattle.std.proofs.Common.{◌<◌, ◌≤◌, length, sym, ◌∙◌, arith, rules}
 use Rattle.common.proofs.Loops.{some_start, some_turn, some_end}
 use Rattle.voter.specs.Voting.{is_invalid}
 use Rattle.controller.specs.Votes.{some_invalid}

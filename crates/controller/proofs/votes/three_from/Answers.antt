@@ -1,7 +1,6 @@
 -- `controller::votes::three_from` meets its contract.
 -- Assumes nothing.
 use Rattle.controller.specs.Votes.{three_from}
-use Rattle.std.proofs.Common.{rules}
 use Rattle.controller.proofs.votes.three_from.Goals as goal
 
 pub returns : goal.returns

@@ -1,6 +1,5 @@
 -- `cylinder::Cylinder::at` meets its contract, by what `fraction` makes.
 -- Assumes nothing.
-use Rattle.std.proofs.Common.{rules}
 use Rattle.cylinder.specs.Moves.{cylinder_at}
 use Rattle.cylinder.proofs.Cylinder.at.Goals as goal
 

@@ -1,6 +1,5 @@
 -- `cylinder::Cylinder::is_sound` meets its contract, by what its position and its rate are.
 -- Assumes nothing.
-use Rattle.std.proofs.Common.{rules}
 use Rattle.cylinder.specs.Moves.{is_sound}
 use Rattle.cylinder.proofs.Cylinder.is_sound.Goals as goal
 

@@ -1,6 +1,5 @@
 -- `cylinder::Cylinder::moved` meets its contract: by whether the position is taken, and then the rate that is shown.
 -- Assumes nothing.
-use Rattle.std.proofs.Common.{rules}
 use mir.Facts.{Fits-below}
 use Rattle.cylinder.specs.Fractions.{stroke}
 use Rattle.cylinder.specs.Moves.{moved}

@@ -1,12 +1,11 @@
 -- `dumping::Waves::fill` meets its contract. The loop's invariant: the turns that are left come to the answer of the whole part.
 -- Assumes nothing.
-use Rattle.std.proofs.Common.{◌≡◌, ◌-◌, ◌<◌, ◌≤◌, length, sym, refl, ◌∙◌, arith, rules}
+use Rattle.std.proofs.Common.{◌<◌, sym, refl, ◌∙◌, arith}
 use Rattle.reading.specs.Fills.{fill_by}
 use Rattle.reading.proofs.Fills as fills
 use Rattle.dumping.specs.Parts.{given, room, answer_of, fill_of}
 use Rattle.dumping.proofs.Whole.{nothing_told}
 use Rattle.dumping.proofs.Filling.{refuses_out, refuses_line, again, ends}
-use Rattle.dumping.proofs.Waves.fill.Statement.{statement}
 use Rattle.dumping.proofs.Waves.fill.Goals as goal
 use Rattle.dumping.proofs.Waves.fill.Goals.{After-slice_known-in-loop-line-2-1}
 

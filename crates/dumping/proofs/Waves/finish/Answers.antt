@@ -1,10 +1,9 @@
 -- `dumping::Waves::finish` meets its contract: an output buffer that has room, and what is written of what was taken in.
 -- Assumes nothing.
-use Rattle.std.proofs.Common.{refl, rules}
+use Rattle.std.proofs.Common.{refl}
 use Rattle.reading.specs.Runs.{finish_by}
 use Rattle.dumping.specs.Parts.{finish_of}
 use Rattle.dumping.proofs.Taking.{sent_away, told_in, finished}
-use Rattle.dumping.proofs.Waves.finish.Statement.{statement}
 use Rattle.dumping.proofs.Waves.finish.Goals as goal
 
 pub returns-then-out-lt-ROOM : goal.returns-then-out-lt-ROOM

@@ -1,8 +1,6 @@
 -- `dumping::Waves::from` meets its contract: nothing read, and no dump begun, with the controller to go on with.
 -- Assumes nothing.
-use Rattle.std.proofs.Common.{rules}
 use Rattle.dumping.specs.Parts.{begun_from}
-use Rattle.dumping.proofs.Waves.from.Statement.{statement}
 use Rattle.dumping.proofs.Waves.from.Goals as goal
 
 pub returns : goal.returns

@@ -1,8 +1,7 @@
 -- `dumping::Waves::new` meets its contract: from a fresh controller.
 -- Assumes nothing.
-use Rattle.std.proofs.Common.{ap, ◌∙◌, rules}
+use Rattle.std.proofs.Common.{ap, ◌∙◌}
 use Rattle.dumping.specs.Parts.{begun_from, new_waves}
-use Rattle.dumping.proofs.Waves.new.Statement.{statement}
 use Rattle.dumping.proofs.Waves.new.Goals as goal
 
 pub returns : goal.returns

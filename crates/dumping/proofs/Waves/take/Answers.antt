@@ -1,10 +1,9 @@
 -- `dumping::Waves::take` meets its contract: an output buffer that has room, and what is written of what was taken in.
 -- Assumes nothing.
-use Rattle.std.proofs.Common.{refl, rules}
+use Rattle.std.proofs.Common.{refl}
 use Rattle.reading.specs.Runs.{take_by}
 use Rattle.dumping.specs.Parts.{take_of}
 use Rattle.dumping.proofs.Taking.{sent_away, told_in, taken}
-use Rattle.dumping.proofs.Waves.take.Statement.{statement}
 use Rattle.dumping.proofs.Waves.take.Goals as goal
 
 pub returns-then-out-lt-ROOM : goal.returns-then-out-lt-ROOM

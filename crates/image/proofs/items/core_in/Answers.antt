@@ -1,6 +1,5 @@
 -- `image::items::core_in` meets its contract: the orders, and one item after the other.
 -- Assumes nothing.
-use Rattle.image.proofs.items.core_in.Statement.{statement}
 use Rattle.image.proofs.items.core_in.Goals as goal
 
 pub returns : goal.returns

@@ -2,7 +2,6 @@
 -- Assumes nothing.
 use Rattle.sensors.proofs.Mirrors.{byte_is_bit}
 use Rattle.image.specs.Items.{order_items, orders_items, rest_items, core_items}
-use Rattle.image.proofs.items.core_items.Statement.{statement}
 use Rattle.image.proofs.items.core_items.Goals as goal
 
 pub returns : goal.returns

@@ -8,7 +8,6 @@ use lib.ListN.{length, get_or}
 use Rattle.sensors.specs.Items.{items_per_sensor}
 use Rattle.image.specs.Items.{sensor_count, first_order, state_of, items_of}
 use Rattle.image.proofs.Strung.{sensor_item, core_item}
-use Rattle.image.proofs.items.item_of.Statement.{statement}
 use borrow.Author.Rules.{rules}
 use Rattle.image.proofs.items.item_of.Goals as goal
 

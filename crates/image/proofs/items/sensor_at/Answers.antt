@@ -2,7 +2,6 @@
 -- Assumes nothing.
 use mathlib.Core.Path.{ap, ◌∙◌}
 use Rattle.sensors.specs.Items.{sensor_in}
-use Rattle.image.proofs.items.sensor_at.Statement.{statement}
 use Rattle.image.proofs.items.sensor_at.Goals as goal
 
 pub returns : goal.returns

@@ -1,20 +1,19 @@
 -- `image::items::sensors_in` meets its contract: after i turns the first i sensors are those of the image.
 -- Assumes nothing.
-use Prim.Native.Nat.{ℕ, ◌*◌, ◌-◌, ◌≤◌}
+use Prim.Native.Nat.{ℕ, ◌*◌}
 use native.Mathlib.Omega.{arith}
 use mathlib.Core.Bool.{false}
 use mathlib.Core.List.{List}
-use mathlib.Core.Path.{◌≡◌, sym, ap, ◌∙◌}
-use lib.ListN.{length, take, drop, replicate}
-use lib.Seq.{paste, paste-zero, drop-drop}
+use mathlib.Core.Path.{sym, ap, ◌∙◌}
+use lib.ListN.{take, drop, replicate}
+use lib.Seq.{paste-zero, drop-drop}
 use Rattle.voter.specs.declared.Voter.{Voter}
 use Rattle.voter.specs.Voting.{fresh_with}
 use Rattle.sensors.specs.Items.{items_per_sensor, sensor_in}
 use Rattle.image.specs.Xdr.{items_in}
-use Rattle.image.specs.Items.{sensor_count, sensors_in}
+use Rattle.image.specs.Items.{sensor_count}
 use Rattle.image.proofs.Strung.{sensors_length, strung_sensor}
 use Rattle.image.proofs.Filling.{one_more, all_of_them}
-use Rattle.image.proofs.items.sensors_in.Statement.{statement}
 use borrow.Author.Rules.{rules}
 use Rattle.image.proofs.items.sensors_in.Goals as goal
 use Rattle.image.proofs.items.sensors_in.Goals.{After-fresh-none}

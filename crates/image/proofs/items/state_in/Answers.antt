@@ -11,7 +11,6 @@ use Rattle.image.specs.Xdr.{items_in}
 use Rattle.image.specs.Items.{first_order, core_width, sensors_tops, core_tops, tops, item_at, state_in}
 use Rattle.image.proofs.Ranged.{within_up_to}
 use Rattle.image.proofs.Fours.{items_length}
-use Rattle.image.proofs.items.state_in.Statement.{statement}
 use Rattle.image.proofs.items.state_in.Goals as goal
 
 pub sensors_in-voters-requires : goal.sensors_in-voters-requires

@@ -1,21 +1,11 @@
 -- `image::ranges::first_out` meets its contract: the items that were looked at are in their ranges, and are so many.
 -- Assumes nothing.
-use Prim.Native.Nat.{ℕ, suc, ◌+◌, ◌-◌, ◌<◌, ◌≤◌}
-use native.Mathlib.Omega.{arith}
-use mathlib.Core.Bool.{Bool, cond}
-use mathlib.Core.List.{List}
-use mathlib.Core.Path.{◌≡◌, ap, ◌∙◌}
-use borrow.Author.Tests.{le-leb, lt-leb}
-use lib.Dec.{leb}
+use Prim.Native.Nat.{◌+◌, ◌-◌, ◌≤◌}
+use mathlib.Core.Path.{◌≡◌}
 use lib.ListN.{length, drop}
 use Rattle.image.specs.Xdr.{items_in}
-use Rattle.image.specs.Items.{item_count, tops, item_at}
+use Rattle.image.specs.Items.{item_count, tops}
 use Rattle.image.specs.Faults.{first_out}
-use Rattle.image.proofs.Fours.{items_length}
-use Rattle.image.proofs.Searching.{out_turn, out_end}
-use Rattle.image.proofs.Strung.{tops_length}
-use borrow.Author.Rules.{rules}
-use Rattle.image.proofs.ranges.first_out.Statement.{statement}
 use Rattle.image.proofs.ranges.first_out.Given as goal
 
 abbrev pub invariant-loop-k : goal.invariant-loop-k

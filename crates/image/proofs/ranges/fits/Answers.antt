@@ -5,7 +5,6 @@ use mathlib.Core.Path.{sym, ap, ◌∙◌}
 use lib.Dec.{eqb}
 use Rattle.image.specs.Items.{item_count}
 use Rattle.image.proofs.Faulty.{fits_ranged, fits_not}
-use Rattle.image.proofs.ranges.fits.Statement.{statement}
 use Rattle.image.proofs.ranges.fits.Goals as goal
 
 pub returns-then-image-eq-SIZE : goal.returns-then-image-eq-SIZE

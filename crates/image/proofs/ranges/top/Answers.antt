@@ -8,7 +8,6 @@ use lib.ListN.{get_or}
 use Rattle.sensors.specs.Items.{items_per_sensor}
 use Rattle.image.specs.Items.{core_tops, tops}
 use Rattle.image.proofs.Strung.{sensor_top, core_top}
-use Rattle.image.proofs.ranges.top.Statement.{statement}
 use Rattle.image.proofs.ranges.top.Goals as goal
 
 pub returns-then-k-eq0 : goal.returns-then-k-eq0

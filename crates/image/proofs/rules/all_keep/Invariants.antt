@@ -1,17 +1,13 @@
 -- `image::rules::all_keep` meets its contract: what has been seen, with what is still to come, stays the answer.
 -- Assumes nothing.
 use Prim.Native.Nat.{ℕ, ◌-◌, ◌≤◌}
-use native.Mathlib.Omega.{arith}
 use mathlib.Core.Bool.{Bool, false, ◌&&◌}
-use mathlib.Core.Path.{◌≡◌, refl, sym, ◌∙◌}
+use mathlib.Core.Path.{◌≡◌}
 use lib.ListN.{length, get_or, drop}
 use Rattle.common.specs.Lists.{all}
-use Rattle.common.proofs.Loops.{all_turn, all_end}
 use Rattle.voter.specs.declared.Voter.{Voter}
 use Rattle.voter.specs.Counts.{count_rules}
 use Rattle.image.specs.Items.{sensor_count}
-use borrow.Author.Rules.{rules}
-use Rattle.image.proofs.rules.all_keep.Statement.{statement}
 use Rattle.image.proofs.rules.all_keep.Given as goal
 
 -- A sensor keeps rule k.

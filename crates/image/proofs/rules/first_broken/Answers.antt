@@ -1,22 +1,21 @@
 -- `image::rules::first_broken` meets its contract: the rules that were looked at are kept, and are so many.
 -- Assumes nothing.
-use Prim.Native.Nat.{ℕ, suc, ◌+◌, ◌-◌, ◌<◌, ◌≤◌}
+use Prim.Native.Nat.{ℕ, suc, ◌+◌, ◌<◌}
 use native.Mathlib.Omega.{arith}
 use mathlib.Core.Bool.{Bool, true, false, cond}
 use mathlib.Core.List.{List}
 use mathlib.Core.Path.{◌≡◌, ap, ◌∙◌}
-use borrow.Author.Tests.{not-true, not-false}
 use lib.ListN.{length, get_or, drop}
 use Rattle.image.specs.Rules.{rule_count}
 use Rattle.image.specs.Faults.{first_broken}
 use Rattle.image.proofs.Searching.{broken_turn, broken_end}
-use Rattle.image.proofs.rules.first_broken.Statement.{statement}
 use borrow.Author.Rules.{rules}
 use Rattle.image.proofs.rules.first_broken.Goals as goal
 
 module _ (tests : List Bool) (k : ℕ) (inside : k < length tests) (d : Bool) where
   broken : get_or tests k d ≡ false → first_broken (drop k tests) ≡ 0
   broken e = broken_turn tests k d inside ∙ ap (λ (t : Bool). cond t (suc (first_broken (drop (k + 1) tests))) 0) e
+
   kept : get_or tests k d ≡ true → first_broken (drop k tests) ≡ suc (first_broken (drop (k + 1) tests))
   kept e = broken_turn tests k d inside ∙ ap (λ (t : Bool). cond t (suc (first_broken (drop (k + 1) tests))) 0) e
 

@@ -1,17 +1,10 @@
 -- `image::rules::first_broken` meets its contract: the rules that were looked at are kept, and are so many.
 -- Assumes nothing.
-use Prim.Native.Nat.{ℕ, suc, ◌+◌, ◌-◌, ◌<◌, ◌≤◌}
-use native.Mathlib.Omega.{arith}
-use mathlib.Core.Bool.{Bool, true, false, cond}
-use mathlib.Core.List.{List}
-use mathlib.Core.Path.{◌≡◌, ap, ◌∙◌}
-use borrow.Author.Tests.{not-true, not-false}
-use lib.ListN.{length, get_or, drop}
+use Prim.Native.Nat.{◌+◌, ◌-◌, ◌≤◌}
+use mathlib.Core.Path.{◌≡◌}
+use lib.ListN.{drop}
 use Rattle.image.specs.Rules.{rule_count}
 use Rattle.image.specs.Faults.{first_broken}
-use Rattle.image.proofs.Searching.{broken_turn, broken_end}
-use borrow.Author.Rules.{rules}
-use Rattle.image.proofs.rules.first_broken.Statement.{statement}
 use Rattle.image.proofs.rules.first_broken.Given as goal
 
 abbrev pub invariant-loop-k : goal.invariant-loop-k

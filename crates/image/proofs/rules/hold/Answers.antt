@@ -5,7 +5,6 @@ use mathlib.Core.Path.{sym, ap, ◌∙◌}
 use lib.Dec.{eqb}
 use Rattle.image.specs.Rules.{rule_count}
 use Rattle.image.proofs.Faulty.{rules_kept}
-use Rattle.image.proofs.rules.hold.Statement.{statement}
 use Rattle.image.proofs.rules.hold.Goals as goal
 
 pub returns : goal.returns

@@ -3,7 +3,6 @@
 use Rattle.voter.specs.Counts.{count_rules}
 use Rattle.controller.specs.Stages.{anomaly}
 use Rattle.image.specs.Rules.{rules}
-use Rattle.image.proofs.rules.tests.Statement.{statement}
 use Rattle.image.proofs.rules.tests.Goals as goal
 
 pub returns : goal.returns

@@ -2,7 +2,6 @@
 -- Assumes nothing.
 use native.Mathlib.Omega.{arith}
 use mathlib.Core.Path.{refl}
-use Rattle.image.proofs.xdr.byte.Statement.{statement}
 use Rattle.image.proofs.xdr.byte.Goals as goal
 
 pub overflow_cast-result : goal.overflow_cast-result

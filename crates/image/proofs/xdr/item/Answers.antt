@@ -2,7 +2,6 @@
 -- Assumes nothing.
 use native.Mathlib.Omega.{arith}
 use Rattle.image.proofs.Reading.{item_read}
-use Rattle.image.proofs.xdr.item.Statement.{statement}
 use Rattle.image.proofs.xdr.item.Goals as goal
 
 pub returns : goal.returns

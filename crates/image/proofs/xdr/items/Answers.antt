@@ -1,15 +1,12 @@
 -- `image::xdr::items` meets its contract: after k turns the first k are those of the image.
 -- Assumes nothing.
-use Prim.Native.Nat.{ℕ, ◌-◌, ◌≤◌}
 use native.Mathlib.Omega.{arith}
-use mathlib.Core.List.{List}
-use mathlib.Core.Path.{◌≡◌, refl, sym, ◌∙◌}
-use lib.ListN.{length, take, drop, length-take, length-drop, length-set}
-use lib.Seq.{paste, get_or-take, get_or-drop}
+use mathlib.Core.Path.{refl, sym, ◌∙◌}
+use lib.ListN.{length, drop, length-take, length-drop, length-set}
+use lib.Seq.{get_or-take, get_or-drop}
 use Rattle.image.specs.Xdr.{items_in}
 use Rattle.image.proofs.Fours.{items_length}
 use Rattle.image.proofs.Filling.{one_more, all_of_them}
-use Rattle.image.proofs.xdr.items.Statement.{statement}
 use Rattle.image.proofs.xdr.items.Goals as goal
 use Rattle.image.proofs.xdr.items.Invariants.{theirs}
 

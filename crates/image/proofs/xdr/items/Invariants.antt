@@ -1,16 +1,11 @@
 -- `image::xdr::items` meets its contract: after k turns the first k are those of the image.
 -- Assumes nothing.
 use Prim.Native.Nat.{ℕ, ◌-◌, ◌≤◌}
-use native.Mathlib.Omega.{arith}
 use mathlib.Core.List.{List}
-use mathlib.Core.Path.{◌≡◌, refl, sym, ◌∙◌}
-use lib.ListN.{length, take, drop, length-take, length-drop, length-set}
-use lib.Seq.{paste, get_or-take, get_or-drop}
+use mathlib.Core.Path.{◌≡◌}
+use lib.ListN.{length, take, drop}
+use lib.Seq.{paste}
 use Rattle.image.specs.Xdr.{items_in}
-use Rattle.image.proofs.Fours.{items_length}
-use Rattle.image.proofs.Filling.{one_more, all_of_them}
-use borrow.Author.Rules.{rules}
-use Rattle.image.proofs.xdr.items.Statement.{statement}
 use Rattle.image.proofs.xdr.items.Given as goal
 
 -- The items that are asked for.

@@ -3,7 +3,6 @@
 use native.Mathlib.Omega.{arith}
 use Rattle.texts.proofs.Placing.{did_put}
 use Rattle.image.specs.Xdr.{four_bytes}
-use Rattle.image.proofs.xdr.put_item.Statement.{statement}
 use Rattle.image.proofs.xdr.put_item.Goals as goal
 
 pub returns : goal.returns

@@ -2,7 +2,6 @@
 -- Assumes nothing.
 use Rattle.std.proofs.Common.{eq-eqb, ne_eqb}
 use Rattle.joined.specs.Rigs.{answered_by}
-use Rattle.joined.proofs.Rig.answered.Statement.{statement}
 use Rattle.joined.proofs.Rig.answered.Goals as goal
 
 pub returns-then-answer-ne0 : goal.returns-then-answer-ne0

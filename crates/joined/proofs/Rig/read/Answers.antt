@@ -2,8 +2,6 @@
 -- Assumes nothing.
 use Rattle.joined.specs.Rigs.{moved_at}
 use Rattle.joined.specs.Rigs.{read_at}
-use Rattle.std.proofs.Common.{rules}
-use Rattle.joined.proofs.Rig.read.Statement.{statement}
 use Rattle.joined.proofs.Rig.read.Goals as goal
 
 pub returns : goal.returns

@@ -1,8 +1,6 @@
 -- `joined::Rig::since_move` meets its contract: 0 at a move, else the time before it and what has elapsed.
 -- Assumes nothing.
-use Rattle.std.proofs.Common.{rules}
 use Rattle.joined.specs.Rigs.{since_move}
-use Rattle.joined.proofs.Rig.since_move.Statement.{statement}
 use Rattle.joined.proofs.Rig.since_move.Goals as goal
 
 pub returns-then-down-self : goal.returns-then-down-self

@@ -2,8 +2,6 @@
 -- Assumes nothing.
 use Rattle.joined.specs.Rigs.{start_cylinders}
 use Rattle.joined.specs.Rigs.{start_of}
-use Rattle.std.proofs.Common.{rules}
-use Rattle.joined.proofs.Rig.start.Statement.{statement}
 use Rattle.joined.proofs.Rig.start.Goals as goal
 
 pub returns : goal.returns

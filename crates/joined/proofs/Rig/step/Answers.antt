@@ -1,8 +1,6 @@
 -- `joined::Rig::step` meets its contract: 13 where one is bad, else by the controller's answer to what was read.
 -- Assumes nothing.
 use Rattle.joined.specs.Rigs.{step_at}
-use Rattle.std.proofs.Common.{rules}
-use Rattle.joined.proofs.Rig.step.Statement.{statement}
 use Rattle.joined.proofs.Rig.step.Goals as goal
 
 pub returns-then-some_bad : goal.returns-then-some_bad

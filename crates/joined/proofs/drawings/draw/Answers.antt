@@ -1,9 +1,8 @@
 -- `joined::drawings::draw` meets its contract: after i turns the floats of the first i cylinders stand in front, and the rest is as it was.
 -- Assumes nothing.
-use Rattle.std.proofs.Common.{◌≡◌, ◌+◌, ◌-◌, ◌*◌, ◌≤◌, length, take, drop, refl, arith, length-set, rules, lt-ltb}
+use Rattle.std.proofs.Common.{◌≡◌, ◌+◌, ◌*◌, ◌≤◌, length, refl, arith, length-set, rules, lt-ltb}
 use Rattle.joined.specs.Drawn.{floats_of, drawn_of}
 use Rattle.joined.proofs.Drawing.{drawn_next, drawn_rest, drawn_all}
-use Rattle.joined.proofs.drawings.draw.Statement.{statement}
 use borrow.Author.Rules.{rules}
 use Rattle.joined.proofs.drawings.draw.Goals as goal
 

@@ -1,9 +1,7 @@
 -- `joined::drawings::draw` meets its contract: after i turns the floats of the first i cylinders stand in front, and the rest is as it was.
 -- Assumes nothing.
-use Rattle.std.proofs.Common.{◌≡◌, ◌+◌, ◌-◌, ◌*◌, ◌≤◌, length, take, drop, refl, arith, length-set, rules, lt-ltb}
-use Rattle.joined.specs.Drawn.{floats_of, drawn_of}
-use Rattle.joined.proofs.Drawing.{drawn_next, drawn_rest, drawn_all}
-use Rattle.joined.proofs.drawings.draw.Statement.{statement}
+use Rattle.std.proofs.Common.{◌≡◌, ◌-◌, ◌*◌, ◌≤◌, length, take, drop}
+use Rattle.joined.specs.Drawn.{floats_of}
 use Rattle.joined.proofs.drawings.draw.Given as goal
 
 abbrev pub invariant-loop-i : goal.invariant-loop-i

@@ -1,7 +1,5 @@
 -- `joined::drives::drive_by` meets its contract: each arm is one case of the rule.
 -- Assumes nothing.
-use Rattle.std.proofs.Common.{rules}
-use Rattle.joined.proofs.drives.drive_by.Statement.{statement}
 use Rattle.joined.proofs.drives.drive_by.Goals as goal
 
 pub returns-in-Rate : goal.returns-in-Rate

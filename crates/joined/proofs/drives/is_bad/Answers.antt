@@ -1,8 +1,6 @@
 -- `joined::drives::is_bad` meets its contract: each arm is one case of the rule.
 -- Assumes nothing.
 use Rattle.joined.specs.Drives.{is_bad}
-use Rattle.std.proofs.Common.{rules}
-use Rattle.joined.proofs.drives.is_bad.Statement.{statement}
 use Rattle.joined.proofs.drives.is_bad.Goals as goal
 
 pub returns-in-Rate : goal.returns-in-Rate

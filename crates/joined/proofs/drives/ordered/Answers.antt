@@ -1,7 +1,6 @@
 -- `joined::drives::ordered` meets its contract: out, in or hold, by the two orders.
 -- Assumes nothing.
 use Rattle.joined.specs.Drives.{ordered}
-use Rattle.joined.proofs.drives.ordered.Statement.{statement}
 use Rattle.joined.proofs.drives.ordered.Goals as goal
 
 pub returns-then-outward : goal.returns-then-outward

@@ -1,7 +1,6 @@
 -- `joined::drives::outward` meets its contract: one order for the doors, one for the gears.
 -- Assumes nothing.
 use Rattle.std.proofs.Common.{le-ltb, lt-ltb}
-use Rattle.joined.proofs.drives.outward.Statement.{statement}
 use Rattle.joined.proofs.drives.outward.Goals as goal
 
 pub returns-then-i-lt3 : goal.returns-then-i-lt3

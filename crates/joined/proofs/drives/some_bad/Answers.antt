@@ -1,8 +1,6 @@
 -- `joined::drives::some_bad` meets its contract, by what is given and what is handed in.
 -- Assumes nothing.
 use Rattle.joined.specs.Drives.{some_bad}
-use Rattle.std.proofs.Common.{rules}
-use Rattle.joined.proofs.drives.some_bad.Statement.{statement}
 use Rattle.joined.proofs.drives.some_bad.Goals as goal
 
 pub returns : goal.returns

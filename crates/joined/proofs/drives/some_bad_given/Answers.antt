@@ -1,10 +1,8 @@
 -- `joined::drives::some_bad_given` meets its contract: what has been seen, with what is still to come, stays the answer.
 -- Assumes nothing.
-use Rattle.std.proofs.Common.{◌≡◌, ◌-◌, ◌<◌, ◌≤◌, ◌||◌, length, drop, sym, ◌∙◌, arith, rules}
-use Rattle.common.specs.Lists.{some}
+use Rattle.std.proofs.Common.{◌<◌, ◌≤◌, length, sym, ◌∙◌, arith, rules}
 use Rattle.common.proofs.Loops.{some_start, some_turn, some_end}
 use Rattle.joined.specs.Drives.{is_bad}
-use Rattle.joined.proofs.drives.some_bad_given.Statement.{statement}
 use borrow.Author.Rules.{rules}
 use Rattle.joined.proofs.drives.some_bad_given.Goals as goal
 

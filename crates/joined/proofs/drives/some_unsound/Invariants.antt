@@ -1,10 +1,8 @@
 -- `joined::drives::some_unsound` meets its contract: what has been seen, with what is still to come, stays the answer.
 -- Assumes nothing.
-use Rattle.std.proofs.Common.{◌≡◌, ◌-◌, ◌<◌, ◌≤◌, ◌||◌, length, drop, sym, ◌∙◌, arith, rules}
+use Rattle.std.proofs.Common.{◌≡◌, ◌-◌, ◌≤◌, ◌||◌, length, drop}
 use Rattle.common.specs.Lists.{some}
-use Rattle.common.proofs.Loops.{some_start, some_turn, some_end}
 use Rattle.joined.specs.Drives.{is_unsound}
-use Rattle.joined.proofs.drives.some_unsound.Statement.{statement}
 use Rattle.joined.proofs.drives.some_unsound.Given as goal
 
 abbrev pub invariant-loop-i : goal.invariant-loop-i

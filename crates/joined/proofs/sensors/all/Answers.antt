@@ -1,8 +1,6 @@
 -- `joined::sensors::all` meets its contract: the eighteen, one by one.
 -- Assumes nothing.
 use Rattle.joined.specs.Sensors.{sensors_of}
-use Rattle.std.proofs.Common.{rules}
-use Rattle.joined.proofs.sensors.all.Statement.{statement}
 use Rattle.joined.proofs.sensors.all.Goals as goal
 
 pub returns : goal.returns

@@ -1,8 +1,6 @@
 -- `joined::sensors::sample` meets its contract: the eighteen, three times each.
 -- Assumes nothing.
 use Rattle.joined.specs.Sensors.{sample_of}
-use Rattle.std.proofs.Common.{rules}
-use Rattle.joined.proofs.sensors.sample.Statement.{statement}
 use Rattle.joined.proofs.sensors.sample.Goals as goal
 
 pub returns : goal.returns

@@ -1,10 +1,9 @@
 -- `joined::sensors::seen_in` meets its contract: cylinder i is one of the six.
 -- Assumes nothing.
 use Rattle.joined.specs.Sensors.{stands_at, no_cylinder, seen_in}
-use Rattle.std.proofs.Common.{◌<◌, length, ap, ◌∙◌, arith, rules}
+use Rattle.std.proofs.Common.{◌<◌, length, ap, ◌∙◌, arith}
 use Rattle.common.proofs.Loops.{get_or_within}
 use Rattle.common.specs.Bits.{bit}
-use Rattle.joined.proofs.sensors.seen_in.Statement.{statement}
 use Rattle.joined.proofs.sensors.seen_in.Goals as goal
 
 pub returns : goal.returns

@@ -1,11 +1,10 @@
 -- `joined::sensors::seen_out` meets its contract: cylinder i is one of the six.
 -- Assumes nothing.
 use Rattle.joined.specs.Sensors.{stands_at, no_cylinder, seen_out}
-use Rattle.std.proofs.Common.{◌<◌, length, ap, ◌∙◌, arith, rules}
+use Rattle.std.proofs.Common.{◌<◌, length, ap, ◌∙◌, arith}
 use Rattle.common.proofs.Loops.{get_or_within}
 use Rattle.common.specs.Bits.{bit}
 use Rattle.cylinder.specs.Fractions.{stroke}
-use Rattle.joined.proofs.sensors.seen_out.Statement.{statement}
 use Rattle.joined.proofs.sensors.seen_out.Goals as goal
 
 pub returns : goal.returns

@@ -1,8 +1,6 @@
 -- `joined::sensors::stands_at` meets its contract: each arm is one case of the rule.
 -- Assumes nothing.
 use Rattle.joined.specs.Sensors.{stands_at}
-use Rattle.std.proofs.Common.{rules}
-use Rattle.joined.proofs.sensors.stands_at.Statement.{statement}
 use Rattle.joined.proofs.sensors.stands_at.Goals as goal
 
 pub returns-in-Of : goal.returns-in-Of

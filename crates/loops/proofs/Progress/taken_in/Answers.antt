@@ -1,7 +1,5 @@
 -- `loops::Progress::taken_in` meets its contract.
 -- Assumes nothing.
-use Rattle.std.proofs.Common.{rules}
-use Rattle.loops.proofs.Progress.taken_in.Statement.{statement}
 use Rattle.loops.proofs.Progress.taken_in.Goals as goal
 
 pub returns : goal.returns

@@ -1,11 +1,9 @@
 -- `plain::lines::put_sensors` meets its contract: after i turns the lines of the first i sensors stand there.
 -- Assumes nothing.
-use Prim.Native.Nat.{◌-◌, ◌≤◌}
 use native.Mathlib.Omega.{arith}
 use mathlib.Core.Path.{◌≡◌, refl, ap}
-use lib.ListN.{length, take}
+use lib.ListN.{length}
 use lib.Seq.{take_all}
-use Rattle.texts.specs.Puts.{PutIfRoom}
 use Rattle.texts.proofs.Pieces.{nothing, same, and}
 use Rattle.plain.specs.Plain.{sensor_lines}
 use Rattle.plain.proofs.Sensors.{sensor_turn}

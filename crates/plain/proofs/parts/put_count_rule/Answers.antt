@@ -4,7 +4,6 @@ use native.Mathlib.Omega.{arith}
 use Rattle.texts.proofs.Pieces.{nothing, same, put}
 use Rattle.plain.specs.Parts.{rule_words}
 use Rattle.plain.proofs.Named.{past_rules}
-use borrow.Author.Rules.{rules}
 use Rattle.plain.proofs.parts.put_count_rule.Goals as goal
 
 pub returns-then-k-eq7 : goal.returns-then-k-eq7

@@ -9,7 +9,6 @@ use Rattle.dump.proofs.Lines.{closing_length_lem}
 use Rattle.readback.specs.declared.Place.TheVariants.{Closing, Line}
 use Rattle.readback.specs.Bytes.{at_closing}
 use Rattle.readback.proofs.FixedTexts.{past_text, within_text}
-use Rattle.readback.proofs.Reader.at_closing.Statement.{statement}
 use Rattle.readback.proofs.Reader.at_closing.Goals as goal
 
 pub returns-then-at-ge-CLOSING_LENGTH : goal.returns-then-at-ge-CLOSING_LENGTH

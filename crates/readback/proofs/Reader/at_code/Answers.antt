@@ -7,7 +7,6 @@ use borrow.Author.Tests.{le-leb, lt-leb, lt-ltb, le-ltb}
 use Rattle.dump.specs.Wires.{wires, first_code}
 use Rattle.readback.specs.Bytes.{at_code}
 use Rattle.dump.proofs.Lines.{is_same, is_another}
-use Rattle.readback.proofs.Reader.at_code.Statement.{statement}
 use Rattle.readback.proofs.Reader.at_code.Goals as goal
 
 pub returns-then-b-lt-FIRST : goal.returns-then-b-lt-FIRST

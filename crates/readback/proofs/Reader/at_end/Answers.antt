@@ -3,7 +3,6 @@
 use borrow.Author.Tests.{eq-eqb, ne_eqb}
 use Rattle.common.specs.Ascii.{lf}
 use Rattle.readback.specs.Bytes.{at_end}
-use Rattle.readback.proofs.Reader.at_end.Statement.{statement}
 use Rattle.readback.proofs.Reader.at_end.Goals as goal
 
 pub returns-then-b-eq10 : goal.returns-then-b-eq10

@@ -4,7 +4,6 @@ use borrow.Author.Tests.{eq-eqb, ne_eqb, le-leb, lt-leb}
 use native.Mathlib.Numerals.{add-one}
 use Rattle.dump.specs.Wires.{first_code}
 use Rattle.readback.specs.Bytes.{at_first_code}
-use Rattle.readback.proofs.Reader.at_first_code.Statement.{statement}
 use Rattle.readback.proofs.Reader.at_first_code.Goals as goal
 
 pub returns-then-b-lt-FIRST : goal.returns-then-b-lt-FIRST

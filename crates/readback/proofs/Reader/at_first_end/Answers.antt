@@ -4,7 +4,6 @@ use borrow.Author.Tests.{eq-eqb, ne_eqb, lt-ltb, le-ltb}
 use Rattle.common.specs.Ascii.{lf}
 use Rattle.dump.specs.Wires.{wires}
 use Rattle.readback.specs.Bytes.{at_first_end}
-use Rattle.readback.proofs.Reader.at_first_end.Statement.{statement}
 use Rattle.readback.proofs.Reader.at_first_end.Goals as goal
 
 pub returns-then-b-ne10 : goal.returns-then-b-ne10

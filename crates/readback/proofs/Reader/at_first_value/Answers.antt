@@ -5,7 +5,6 @@ use borrow.Author.Tests.{ltb-true}
 use Rattle.dump.specs.Wires.{wires}
 use Rattle.readback.specs.Bytes.{at_first_value}
 use Rattle.readback.proofs.Places.{both_hold}
-use Rattle.readback.proofs.Reader.at_first_value.Statement.{statement}
 use Rattle.readback.proofs.Reader.at_first_value.Goals as goal
 
 pub told-requires : goal.told-requires

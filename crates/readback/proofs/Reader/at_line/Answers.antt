@@ -1,7 +1,6 @@
 -- `readback::Reader::at_line` meets its contract: `#`, a value, and another byte.
 -- Assumes nothing.
 use Rattle.readback.specs.Bytes.{at_line}
-use Rattle.readback.proofs.Reader.at_line.Statement.{statement}
 use Rattle.readback.proofs.Reader.at_line.Goals as goal
 
 pub returns-then-b-self : goal.returns-then-b-self

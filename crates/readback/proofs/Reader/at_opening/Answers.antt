@@ -10,7 +10,6 @@ use Rattle.dump.proofs.Lines.{opening_length_lem}
 use Rattle.readback.specs.declared.Place.TheVariants.{Opening, FirstValue}
 use Rattle.readback.specs.Bytes.{at_opening}
 use Rattle.readback.proofs.FixedTexts.{past_text, within_text}
-use Rattle.readback.proofs.Reader.at_opening.Statement.{statement}
 use Rattle.readback.proofs.Reader.at_opening.Goals as goal
 
 pub returns-then-at-ge-OPENING_LENGTH : goal.returns-then-at-ge-OPENING_LENGTH

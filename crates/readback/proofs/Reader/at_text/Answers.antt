@@ -1,6 +1,5 @@
 -- `readback::Reader::at_text` meets its contract: the last byte, one before it, and another byte.
 -- Assumes nothing.
-use Rattle.readback.proofs.Reader.at_text.Statement.{statement}
 use Rattle.readback.proofs.Reader.at_text.Goals as goal
 
 pub returns-then-last : goal.returns-then-last

@@ -8,7 +8,6 @@ use Rattle.common.specs.Ascii.{lf}
 use Rattle.common.specs.Decimal.{digit0}
 use Rattle.readback.specs.Bytes.{at_time}
 use Rattle.readback.proofs.Places.{both_hold}
-use Rattle.readback.proofs.Reader.at_time.Statement.{statement}
 use Rattle.readback.proofs.Reader.at_time.Goals as goal
 
 pub returns-then-b-self : goal.returns-then-b-self

@@ -1,7 +1,6 @@
 -- `readback::Reader::begins` meets its contract: complete, and `#`.
 -- Assumes nothing.
 use Rattle.readback.specs.Reads.{begins}
-use Rattle.readback.proofs.Reader.begins.Statement.{statement}
 use Rattle.readback.proofs.Reader.begins.Goals as goal
 
 pub returns : goal.returns

@@ -3,7 +3,6 @@
 use mathlib.Core.Path.{sym, ap, ◌∙◌}
 use Rattle.readback.specs.Reads.{is_opening}
 use Rattle.readback.proofs.Places.{byte_at}
-use Rattle.readback.proofs.Reader.byte.Statement.{statement}
 use Rattle.readback.proofs.Reader.byte.Goals as goal
 
 pub at_opening-requires : goal.at_opening-requires

@@ -1,7 +1,6 @@
 -- `readback::Reader::complete` meets its contract: the place and the wires told.
 -- Assumes nothing.
 use Rattle.readback.specs.Reads.{complete}
-use Rattle.readback.proofs.Reader.complete.Statement.{statement}
 use Rattle.readback.proofs.Reader.complete.Goals as goal
 
 pub returns : goal.returns

@@ -3,7 +3,6 @@
 use borrow.Author.Tests.{eq-eqb, ne_eqb}
 use Rattle.dump.specs.Wires.{wires}
 use Rattle.readback.specs.Reads.{finish_of}
-use Rattle.readback.proofs.Reader.finish.Statement.{statement}
 use Rattle.readback.proofs.Reader.finish.Goals as goal
 
 pub returns-then-values-ne-WIRES : goal.returns-then-values-ne-WIRES

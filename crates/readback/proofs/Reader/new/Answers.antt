@@ -2,7 +2,6 @@
 -- Assumes nothing.
 use mathlib.Core.Path.{refl}
 use Rattle.readback.specs.Bytes.{new_reader}
-use Rattle.readback.proofs.Reader.new.Statement.{statement}
 use Rattle.readback.proofs.Reader.new.Goals as goal
 
 pub returns : goal.returns

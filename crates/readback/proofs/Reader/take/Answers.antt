@@ -6,7 +6,6 @@ use lib.ListN.{length}
 use borrow.Author.Tests.{eq-eqb, ne_eqb}
 use Rattle.dump.specs.Wires.{wires}
 use Rattle.readback.specs.Reads.{take_of}
-use Rattle.readback.proofs.Reader.take.Statement.{statement}
 use borrow.Author.Rules.{rules}
 use Rattle.readback.proofs.Reader.take.Goals as goal
 

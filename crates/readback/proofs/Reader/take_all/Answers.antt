@@ -1,6 +1,6 @@
 -- `readback::Reader::take_all` meets its contract. The loop's invariant: the rule gives for the whole part what it gives from here on.
 -- Assumes nothing.
-use Prim.Native.Nat.{ℕ, ◌+◌, ◌-◌, ◌≤◌}
+use Prim.Native.Nat.{ℕ, ◌+◌}
 use native.Mathlib.Omega.{arith}
 use mathlib.Core.List.{List}
 use mathlib.Core.Path.{◌≡◌, sym, ap, ap₂, ◌∙◌}
@@ -8,10 +8,9 @@ use lib.ListN.{length, get_or, drop}
 use Rattle.readback.specs.declared.Reader.{Reader}
 use Rattle.readback.specs.declared.Took.{Took}
 use Rattle.readback.specs.Bytes.{byte_of}
-use Rattle.readback.specs.Reads.{AtHand, is_bad, gives_moment, taken_from}
+use Rattle.readback.specs.Reads.{is_bad, gives_moment, taken_from}
 use Rattle.readback.proofs.Places.{was_opening}
 use Rattle.readback.proofs.Turns.{used_up, turned_bad, turned_moment, turned}
-use Rattle.readback.proofs.Reader.take_all.Statement.{statement}
 use Rattle.readback.proofs.Reader.take_all.Goals as goal
 use Rattle.readback.proofs.Reader.take_all.Goals.{After-is_bad}
 

@@ -1,6 +1,5 @@
 -- `reading::Phase::has_started` meets its contract: the arms are the rule's own.
 -- Assumes nothing.
-use Rattle.reading.proofs.Phase.has_started.Statement.{statement}
 use Rattle.reading.proofs.Phase.has_started.Goals as goal
 
 pub returns-in-Rows : goal.returns-in-Rows

@@ -1,7 +1,6 @@
 -- `reading::Reading::end` meets its contract: by the phase.
 -- Assumes nothing.
 use Rattle.reading.specs.Rows.{end_of}
-use Rattle.reading.proofs.Reading.end.Statement.{statement}
 use Rattle.reading.proofs.Reading.end.Goals as goal
 
 pub returns-in-Header : goal.returns-in-Header

@@ -2,7 +2,6 @@
 -- Assumes nothing.
 use mathlib.Core.Path.{ap, ◌∙◌}
 use Rattle.reading.specs.Rows.{read_from, nothing_read}
-use Rattle.reading.proofs.Reading.new.Statement.{statement}
 use Rattle.reading.proofs.Reading.new.Goals as goal
 
 pub returns : goal.returns

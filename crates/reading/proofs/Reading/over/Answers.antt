@@ -1,7 +1,6 @@
 -- `reading::Reading::over` meets its contract: by the phase.
 -- Assumes nothing.
 use Rattle.reading.specs.Rows.{over_of}
-use Rattle.reading.proofs.Reading.over.Statement.{statement}
 use Rattle.reading.proofs.Reading.over.Goals as goal
 
 pub returns-in-Header : goal.returns-in-Header

@@ -1,7 +1,6 @@
 -- `reading::Reading::row` meets its contract: by the phase.
 -- Assumes nothing.
 use Rattle.reading.specs.Rows.{row_of}
-use Rattle.reading.proofs.Reading.row.Statement.{statement}
 use Rattle.reading.proofs.Reading.row.Goals as goal
 
 pub returns-in-Header : goal.returns-in-Header

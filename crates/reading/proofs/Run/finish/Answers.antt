@@ -6,7 +6,6 @@ use Rattle.reading.specs.declared.Next.{Next}
 use Rattle.reading.specs.declared.Piece.{Piece}
 use Rattle.reading.specs.Parts.{next_by, finish_of}
 use Rattle.reading.proofs.Lending.{last_fits}
-use Rattle.reading.proofs.Run.finish.Statement.{statement}
 use Rattle.reading.proofs.Run.finish.Goals as goal
 
 pub returns-then-line-ne-LINE : goal.returns-then-line-ne-LINE

@@ -2,7 +2,6 @@
 -- Assumes nothing.
 use mathlib.Core.Path.{ap}
 use Rattle.reading.specs.declared.Heard.{Heard}
-use Rattle.reading.proofs.Run.goes_on.Statement.{statement}
 use Rattle.reading.proofs.Run.goes_on.Goals as goal
 
 pub returns : goal.returns

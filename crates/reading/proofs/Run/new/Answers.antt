@@ -2,7 +2,6 @@
 -- Assumes nothing.
 use mathlib.Core.Path.{ap, ◌∙◌}
 use Rattle.reading.specs.Parts.{run_from, new_run}
-use Rattle.reading.proofs.Run.new.Statement.{statement}
 use Rattle.reading.proofs.Run.new.Goals as goal
 
 pub returns : goal.returns

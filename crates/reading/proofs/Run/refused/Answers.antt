@@ -2,7 +2,6 @@
 -- Assumes nothing.
 use mathlib.Core.Path.{refl}
 use Rattle.reading.specs.Parts.{refused}
-use Rattle.reading.proofs.Run.refused.Statement.{statement}
 use Rattle.reading.proofs.Run.refused.Goals as goal
 
 pub returns : goal.returns

@@ -7,7 +7,6 @@ use Rattle.reading.specs.declared.Next.{Next}
 use Rattle.reading.specs.declared.Piece.{Piece}
 use Rattle.reading.specs.Parts.{next_by, take_of}
 use Rattle.reading.proofs.Lending.{piece_fits}
-use Rattle.reading.proofs.Run.take.Statement.{statement}
 use Rattle.reading.proofs.Run.take.Goals as goal
 
 pub returns-then-line-ne-LINE : goal.returns-then-line-ne-LINE

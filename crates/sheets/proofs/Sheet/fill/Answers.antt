@@ -1,10 +1,9 @@
 -- `sheets::Sheet::fill` meets its contract: a buffer that has no room; a sheet that a 9 has ended; and any other.
 -- Assumes nothing.
-use Rattle.std.proofs.Common.{◌∙◌, arith, rules, le-ltb, lt-ltb}
+use Rattle.std.proofs.Common.{◌∙◌, arith, le-ltb, lt-ltb}
 use Rattle.sheets.specs.Sheets.{row_room}
 use Rattle.sheets.specs.Runs.{fill_of}
 use Rattle.sheets.proofs.Filling.{as_fill}
-use Rattle.sheets.proofs.Sheet.fill.Statement.{statement}
 use Rattle.sheets.proofs.Sheet.fill.Goals as goal
 
 pub returns-then-out-lt-ROOM : goal.returns-then-out-lt-ROOM

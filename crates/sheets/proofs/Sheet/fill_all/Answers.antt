@@ -1,7 +1,7 @@
 -- `sheets::Sheet::fill_all` meets its contract. The loop's invariant: the rule gives for the whole part what it gives from here on, behind the text
 -- that stands in front of the output buffer.
 -- Assumes nothing.
-use Rattle.std.proofs.Common.{◌≡◌, ℕ, ◌+◌, ◌-◌, ◌≤◌, false, List, [], length, take, drop, replicate, sym, refl, ap, ◌∙◌, subst, arith, length-drop, drop_of_length-le, drop-drop, rules}
+use Rattle.std.proofs.Common.{◌≡◌, ℕ, ◌+◌, ◌≤◌, List, [], length, take, drop, replicate, sym, refl, ap, ◌∙◌, subst, arith, length-drop, drop_of_length-le, drop-drop}
 use borrow.Author.Tests.{not-true, not-false}
 use Rattle.dump.specs.Wires.{wires}
 use Rattle.sheets.specs.declared.Sheet.{Sheet}
@@ -10,7 +10,6 @@ use Rattle.sheets.specs.declared.Took.{Took}
 use Rattle.sheets.specs.Sheets.{row_room, sheet_row}
 use Rattle.sheets.specs.Runs.{with_row, fill_from}
 use Rattle.sheets.proofs.Filling.{with_text, none_fills, Turned, turned, as_filled, past_row, stops, goes_on}
-use Rattle.sheets.proofs.Sheet.fill_all.Statement.{statement}
 use Rattle.sheets.proofs.Sheet.fill_all.Goals as goal
 use Rattle.sheets.proofs.Sheet.fill_all.Goals.{After-next-turn, After-with_row-sheet}
 
@@ -50,9 +49,12 @@ returns-then-after c = let l = c.loop-used in
     let a = c.args in
     let all : l.used + length (drop l.used a.part.now) ≡ length a.part.now = simp length-drop (omega arith) in
     let text = take l.written l.out in
-    let s = c.next-turn.result.sheet in record { out_after = ap (λ (t : Took). (t, l.out)) c.took.ensures
+    let s = c.next-turn.result.sheet in record {
+      out_after = ap (λ (t : Took). (t, l.out)) c.took.ensures
           ∙ as_filled s (length a.part.now) l.written l.out a.out.now (omega arith) l.invariant.4
-          (l.invariant.5 ∙ (turn_law (goal.at.returns-then-after c).After-next-turn).at_nine c.if-after.true ∙ ap (λ (k : ℕ). (s, k, text)) all); used_in_bounds = (rw c.took.ensures (omega arith), rw c.took.ensures (omega arith)) }
+          (l.invariant.5 ∙ (turn_law (goal.at.returns-then-after c).After-next-turn).at_nine c.if-after.true ∙ ap (λ (k : ℕ). (s, k, text)) all);
+      used_in_bounds = (rw c.took.ensures (omega arith), rw c.took.ensures (omega arith));
+    }
 
 pub overflow_add-used : goal.overflow_add-used
 overflow_add-used c =
@@ -63,9 +65,12 @@ pub returns-then-not-turn : goal.returns-then-not-turn
 returns-then-not-turn c = let l = c.loop-used in
     let a = c.args in
     let t = c.next-turn.result in
-    let inside : l.used + t.used ≤ length a.part.now = omega (arith, (turn_law (goal.at.returns-then-not-turn c).After-next-turn).inside, length-drop l.used a.part.now) in record { out_after = ap (λ (t : Took). (t, l.out)) c.took-then-not-turn.ensures
+    let inside : l.used + t.used ≤ length a.part.now = omega (arith, (turn_law (goal.at.returns-then-not-turn c).After-next-turn).inside, length-drop l.used a.part.now) in record {
+      out_after = ap (λ (t : Took). (t, l.out)) c.took-then-not-turn.ensures
           ∙ as_filled t.sheet (l.used + t.used) l.written l.out a.out.now (omega arith) l.invariant.4
-          (l.invariant.5 ∙ (turn_law (goal.at.returns-then-not-turn c).After-next-turn).at_end c.if-after.false (not-true _ c.if-not-turn.true)); used_in_bounds = (rw c.took-then-not-turn.ensures inside, rw c.took-then-not-turn.ensures (omega arith)) }
+          (l.invariant.5 ∙ (turn_law (goal.at.returns-then-not-turn c).After-next-turn).at_end c.if-after.false (not-true _ c.if-not-turn.true));
+      used_in_bounds = (rw c.took-then-not-turn.ensures inside, rw c.took-then-not-turn.ensures (omega arith));
+    }
 
 pub shape_of-out-then-out-written-lt-ROOM : goal.shape_of-out-then-out-written-lt-ROOM
 shape_of-out-then-out-written-lt-ROOM c = row_kept (goal.at.shape_of-out-then-out-written-lt-ROOM c).After-with_row-sheet
@@ -78,10 +83,13 @@ returns-then-out-written-lt-ROOM c = let l = c.loop-used in
     let size = length a.out.now in
     let kept = row_kept (goal.at.returns-then-out-written-lt-ROOM c).After-with_row-sheet in
     let within : c.row_at-written.result ≤ length c.row_at-written.new.out = omega (arith, c.row_at-written.ensures.0, l.invariant.3, kept) in
-    let inside : l.used + t.used ≤ length a.part.now = omega (arith, (turn_law (goal.at.returns-then-out-written-lt-ROOM c).After-next-turn).inside, length-drop l.used a.part.now) in record { out_after = ap (λ (t : Took). (t, c.row_at-written.new.out)) c.took-then-out-written-lt-ROOM.ensures
+    let inside : l.used + t.used ≤ length a.part.now = omega (arith, (turn_law (goal.at.returns-then-out-written-lt-ROOM c).After-next-turn).inside, length-drop l.used a.part.now) in record {
+      out_after = ap (λ (t : Took). (t, c.row_at-written.new.out)) c.took-then-out-written-lt-ROOM.ensures
           ∙ ap (λ (s : Sheet). (record { sheet = s; used = l.used + t.used; written = c.row_at-written.result; refusal = 0 }, c.row_at-written.new.out)) c.with_row-sheet.ensures
           ∙ as_filled (with_row t.sheet) (l.used + t.used) c.row_at-written.result c.row_at-written.new.out a.out.now within (past_row a.out.now put l.invariant.4)
-          (row_law (goal.at.returns-then-out-written-lt-ROOM c).After-with_row-sheet ∙ stops size put within (with_row t.sheet) (l.used + t.used) _ (omega (arith, c.if-out-written-lt-ROOM.true, within, kept))); used_in_bounds = (rw c.took-then-out-written-lt-ROOM.ensures inside, rw c.took-then-out-written-lt-ROOM.ensures (omega (arith, within, kept))) }
+          (row_law (goal.at.returns-then-out-written-lt-ROOM c).After-with_row-sheet ∙ stops size put within (with_row t.sheet) (l.used + t.used) _ (omega (arith, c.if-out-written-lt-ROOM.true, within, kept)));
+      used_in_bounds = (rw c.took-then-out-written-lt-ROOM.ensures inside, rw c.took-then-out-written-lt-ROOM.ensures (omega (arith, within, kept)));
+    }
 
 pub loop-used-smaller : goal.loop-used-smaller
 loop-used-smaller c =
@@ -115,6 +123,9 @@ pub returns : goal.returns
 returns c = let l = c.loop-used in
     let a = c.args in
     let size = length a.out.now in
-    let text = take l.written l.out in record { out_after = ap (λ (t : Took). (t, l.out)) c.took-2.ensures
+    let text = take l.written l.out in record {
+      out_after = ap (λ (t : Took). (t, l.out)) c.took-2.ensures
           ∙ as_filled l.sheet l.used l.written l.out a.out.now (omega arith) l.invariant.4
-          (l.invariant.5 ∙ ap (fill_from size l.sheet l.used text) (drop_of_length-le a.part.now {i = l.used} (omega arith)) ∙ none_fills size text l.sheet l.used); used_in_bounds = (rw c.took-2.ensures (omega arith), rw c.took-2.ensures (omega arith)) }
+          (l.invariant.5 ∙ ap (fill_from size l.sheet l.used text) (drop_of_length-le a.part.now {i = l.used} (omega arith)) ∙ none_fills size text l.sheet l.used);
+      used_in_bounds = (rw c.took-2.ensures (omega arith), rw c.took-2.ensures (omega arith));
+    }

@@ -1,16 +1,9 @@
 -- `sheets::Sheet::fill_all` meets its contract. The loop's invariant: the rule gives for the whole part what it gives from here on, behind the text
 -- that stands in front of the output buffer.
 -- Assumes nothing.
-use Rattle.std.proofs.Common.{◌≡◌, ℕ, ◌+◌, ◌-◌, ◌≤◌, false, List, [], length, take, drop, replicate, sym, refl, ap, ◌∙◌, subst, arith, length-drop, drop_of_length-le, drop-drop, rules}
-use borrow.Author.Tests.{not-true, not-false}
-use Rattle.dump.specs.Wires.{wires}
-use Rattle.sheets.specs.declared.Sheet.{Sheet}
-use Rattle.sheets.specs.declared.Turn.{Turn}
-use Rattle.sheets.specs.declared.Took.{Took}
-use Rattle.sheets.specs.Sheets.{row_room, sheet_row}
-use Rattle.sheets.specs.Runs.{with_row, fill_from}
-use Rattle.sheets.proofs.Filling.{with_text, none_fills, Turned, turned, as_filled, past_row, stops, goes_on}
-use Rattle.sheets.proofs.Sheet.fill_all.Statement.{statement}
+use Rattle.std.proofs.Common.{◌≡◌, ◌+◌, ◌-◌, ◌≤◌, false, [], length, take, drop}
+use Rattle.sheets.specs.Sheets.{row_room}
+use Rattle.sheets.specs.Runs.{fill_from}
 use Rattle.sheets.proofs.Sheet.fill_all.Given as goal
 
 abbrev pub invariant-loop-used : goal.invariant-loop-used

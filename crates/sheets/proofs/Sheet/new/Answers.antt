@@ -1,8 +1,6 @@
 -- `sheets::Sheet::new` meets its contract: its reader is a new one.
 -- Assumes nothing.
-use Rattle.std.proofs.Common.{rules}
 use Rattle.sheets.specs.Runs.{new_sheet}
-use Rattle.sheets.proofs.Sheet.new.Statement.{statement}
 use Rattle.sheets.proofs.Sheet.new.Goals as goal
 
 pub returns : goal.returns

@@ -1,10 +1,9 @@
 -- `sheets::Sheet::next` meets its contract: a 9, and anything else that the reader makes of the rest of the part.
 -- Assumes nothing.
-use Rattle.std.proofs.Common.{◌≡◌, ◌-◌, length, take, drop, replicate, refl, arith, length-drop, take_all, rules, eq-eqb, ne_eqb}
+use Rattle.std.proofs.Common.{◌≡◌, ◌-◌, length, take, drop, replicate, refl, arith, length-drop, take_all, eq-eqb, ne_eqb}
 use Rattle.common.proofs.Pairs.{both}
 use Rattle.dump.specs.Wires.{wires}
 use Rattle.sheets.proofs.Filling.{within, as_turn}
-use Rattle.sheets.proofs.Sheet.next.Statement.{statement}
 use Rattle.sheets.proofs.Sheet.next.Goals as goal
 
 pub line_behind-line-requires : goal.line_behind-line-requires

@@ -1,7 +1,5 @@
 -- `sheets::Sheet::over` meets its contract: its reader is a new one.
 -- Assumes nothing.
-use Rattle.std.proofs.Common.{rules}
-use Rattle.sheets.proofs.Sheet.over.Statement.{statement}
 use Rattle.sheets.proofs.Sheet.over.Goals as goal
 
 pub returns : goal.returns

@@ -1,7 +1,5 @@
 -- `sheets::Sheet::with_row` meets its contract: the rows wrap around.
 -- Assumes nothing.
-use Rattle.std.proofs.Common.{rules}
-use Rattle.sheets.proofs.Sheet.with_row.Statement.{statement}
 use Rattle.sheets.proofs.Sheet.with_row.Goals as goal
 
 pub returns : goal.returns

@@ -1,6 +1,6 @@
 -- `sheets::rows::header_text` meets its contract: `time`, the names, and the end.
 -- Assumes nothing.
-use Rattle.std.proofs.Common.{arith, rules}
+use Rattle.std.proofs.Common.{arith}
 use Rattle.common.specs.Ascii.{joined_by_commas}
 use Rattle.names.specs.Words.{order_names}
 use Rattle.names.proofs.Lengths.{order_names_length, lamp_names_length, sensor_names_length}
@@ -8,7 +8,6 @@ use Rattle.texts.specs.Puts.{Put}
 use Rattle.texts.proofs.Placing.{did_put, then, same_piece}
 use Rattle.common.specs.Ascii.{ascii}
 use Rattle.sheets.proofs.Fields.{header_parts, others_length}
-use Rattle.sheets.proofs.rows.header_text.Statement.{statement}
 use Rattle.sheets.proofs.rows.header_text.Goals as goal
 use Rattle.sheets.proofs.rows.header_text.Goals.{After-put-timed, After-put_order_names-ordered}
 

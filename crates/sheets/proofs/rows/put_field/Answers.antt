@@ -1,8 +1,7 @@
 -- `sheets::rows::put_field` meets its contract: two bytes.
 -- Assumes nothing.
-use Rattle.std.proofs.Common.{arith, rules}
+use Rattle.std.proofs.Common.{arith}
 use Rattle.texts.proofs.Placing.{did_put, same_piece}
-use Rattle.sheets.proofs.rows.put_field.Statement.{statement}
 use Rattle.sheets.proofs.rows.put_field.Goals as goal
 
 pub returns : goal.returns

@@ -1,12 +1,9 @@
 -- `sheets::rows::put_fields` meets its contract: after i turns the fields of the first i wires stand there.
 -- Assumes nothing.
-use Rattle.std.proofs.Common.{◌≡◌, ◌+◌, ◌-◌, ◌*◌, ◌≤◌, length, take, refl, ap, ◌∙◌, arith, take_all, rules}
+use Rattle.std.proofs.Common.{◌≡◌, ◌+◌, ◌-◌, ◌*◌, ◌≤◌, length, take}
 use Rattle.texts.specs.Puts.{Put}
-use Rattle.texts.proofs.Placing.{then, same_piece, put_nothing}
 use Rattle.dump.specs.Wires.{wires}
 use Rattle.sheets.specs.Sheets.{later_fields}
-use Rattle.sheets.proofs.Fields.{fields_turn}
-use Rattle.sheets.proofs.rows.put_fields.Statement.{statement}
 use Rattle.sheets.proofs.rows.put_fields.Given as goal
 
 abbrev pub invariant-loop-i : goal.invariant-loop-i

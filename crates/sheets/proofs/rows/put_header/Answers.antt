@@ -1,8 +1,7 @@
 -- `sheets::rows::put_header` meets its contract: the header's text is handed over.
 -- Assumes nothing.
-use Rattle.std.proofs.Common.{ap, ◌∙◌, arith, length-take, rules}
+use Rattle.std.proofs.Common.{ap, ◌∙◌, arith, length-take}
 use Rattle.texts.specs.Puts.{put_of}
-use Rattle.sheets.proofs.rows.put_header.Statement.{statement}
 use Rattle.sheets.proofs.rows.put_header.Goals as goal
 
 pub slice_bounds-put-end : goal.slice_bounds-put-end

@@ -1,10 +1,9 @@
 -- `sheets::rows::put_others` meets its contract: the lamps' names and the sensors', each behind a comma.
 -- Assumes nothing.
-use Rattle.std.proofs.Common.{arith, rules}
+use Rattle.std.proofs.Common.{arith}
 use Rattle.texts.proofs.Placing.{did_put, then}
 use Rattle.sheets.specs.Sheets.{other_names}
 use Rattle.sheets.proofs.Fields.{others_length}
-use Rattle.sheets.proofs.rows.put_others.Statement.{statement}
 use Rattle.sheets.proofs.rows.put_others.Goals as goal
 
 pub returns : goal.returns

@@ -1,8 +1,7 @@
 -- `sheets::rows::put_row` meets its contract: the row's text is handed over.
 -- Assumes nothing.
-use Rattle.std.proofs.Common.{ap, ◌∙◌, arith, length-take, rules}
+use Rattle.std.proofs.Common.{ap, ◌∙◌, arith, length-take}
 use Rattle.texts.specs.Puts.{put_of}
-use Rattle.sheets.proofs.rows.put_row.Statement.{statement}
 use Rattle.sheets.proofs.rows.put_row.Goals as goal
 
 pub slice_bounds-put-end : goal.slice_bounds-put-end

@@ -7,7 +7,6 @@ use Rattle.texts.specs.Puts.{Put}
 use Rattle.texts.proofs.Placing.{did_put, then, same_piece}
 use Rattle.dump.specs.Wires.{wires}
 use Rattle.sheets.proofs.Fields.{row_parts, fields_length}
-use Rattle.sheets.proofs.rows.row_text.Statement.{statement}
 use borrow.Author.Rules.{rules}
 use Rattle.sheets.proofs.rows.row_text.Goals as goal
 use Rattle.sheets.proofs.rows.row_text.Goals.{After-put_number-timed}

@@ -9,7 +9,7 @@ use Rattle.table.proofs.Asked.number.Goals as goal
 pub overflow_add-result : goal.overflow_add-result
 overflow_add-result c =
     let a = c.args.self in
-    omega (arith, c.ground_and_handle.ensures, to_768 a.ground a.aim, c.number.ensures, doors_to_3 a.place.doors)
+    omega (arith, c.ground_and_handle.ensures, to_768 a.grounded a.aim, c.number.ensures, doors_to_3 a.place.doors)
 
 pub overflow_add-result-2 : goal.overflow_add-result-2
 overflow_add-result-2 c =
@@ -17,7 +17,7 @@ overflow_add-result-2 c =
     omega (
       arith,
       c.ground_and_handle.ensures,
-      to_768 a.ground a.aim,
+      to_768 a.grounded a.aim,
       c.number.ensures,
       doors_to_3 a.place.doors,
       c.number-2.ensures,
@@ -30,7 +30,7 @@ overflow_add-result-3 c =
     omega (
       arith,
       c.ground_and_handle.ensures,
-      to_768 a.ground a.aim,
+      to_768 a.grounded a.aim,
       c.number.ensures,
       doors_to_3 a.place.doors,
       c.number-2.ensures,

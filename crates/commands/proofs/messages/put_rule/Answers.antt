@@ -1,0 +1,9 @@
+-- `commands::messages::put_rule` meets its contract: the refusal, and its name.
+-- Assumes nothing.
+use Rattle.commands.proofs.Putting.{put, and}
+use Rattle.commands.proofs.messages.put_rule.Statement.{statement}
+use Rattle.commands.proofs.messages.put_rule.Goals as goal
+
+pub returns : goal.returns
+returns c =
+    and (put c.put-told.ensures) (put c.put_rule.ensures)

@@ -1,0 +1,15 @@
+-- `commands::walls::page` meets its contract: as many bytes are put out as the text has.
+-- Assumes nothing.
+use Prim.Native.Nat.{ℕ}
+use native.Mathlib.Omega.{arith}
+use mathlib.Core.List.{List}
+use mathlib.Core.Path.{ap, ◌∙◌}
+use Rattle.chart.specs.Page.{page_text}
+use Rattle.chart.proofs.Lengths.{page_length}
+use Rattle.commands.proofs.Shows.{all_put}
+use Rattle.commands.proofs.walls.page.Statement.{statement}
+use Rattle.commands.proofs.walls.page.Goals as goal
+
+pub returns : goal.returns
+returns g c =
+    ap (λ (x : ℕ × List ℕ). x.0) c.put_page-put.ensures ∙ all_put _ page_text (omega (arith, c.large-out.ensures, page_length))

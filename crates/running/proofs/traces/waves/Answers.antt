@@ -1,0 +1,11 @@
+-- `running::traces::waves` meets its contract: the loop's, from a fresh controller.
+-- Assumes nothing.
+use Rattle.std.proofs.Common.{subst, rules}
+use Rattle.controller.specs.declared.State.{State}
+use Rattle.running.specs.declared.Task.TheVariants.{Waves}
+use Rattle.running.specs.Loops.{RanFrom}
+use Rattle.running.proofs.traces.waves.Statement.{statement}
+use Rattle.running.proofs.traces.waves.Goals as goal
+
+pub returns : goal.returns
+returns g c = subst (λ (s : State). RanFrom Waves s c.run.result) c.fresh.ensures c.run.ensures

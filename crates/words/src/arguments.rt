@@ -1,0 +1,25 @@
+// The words that a program is given by who starts it; the first is its own name.
+ghost use Rattle.std.specs.Prelude.{◌≤◌, length};
+
+use std::env::{Env, FillError};
+
+// How many there are.
+pub fn count<S: Env>(system: &S) -> usize {
+    let mut room = [0u8; 1];
+    for i in 0..usize::MAX {
+        if let Err(FillError::NotPresent) = system.arg(i, &mut room) {
+            return i;
+        }
+    }
+    usize::MAX
+}
+
+// Puts one of them at the front of a buffer, and answers how many bytes it has; none where there is no such word, or no room for it.
+pub fn word<S: Env>(system: &S, i: usize, into: &mut [u8]) -> usize
+    ensures { result ≤ length into.new }
+{
+    match system.arg(i, into) {
+        Ok(n) => n,
+        Err(_) => 0,
+    }
+}
