@@ -3,14 +3,11 @@
 use Prim.Native.Nat.{ℕ, ◌+◌, ◌^◌, ◌<◌, ◌≤◌}
 use native.Mathlib.Omega.{arith}
 use mathlib.Core.Bool.{Bool, true, false, cond}
-use mathlib.Core.List.{List, [], ◌++◌}
+use mathlib.Core.List.{List, []}
 use mathlib.Core.Path.{◌≡◌}
 use lib.Dec.{eqb}
-use lib.ListN.{length, length-append, length-take}
-use Rattle.common.specs.Ascii.{ascii}
-use Rattle.common.specs.Decimal.{decimal}
+use lib.ListN.{length, length-append}
 use Rattle.common.proofs.Decimals.{decimal_length}
-use Rattle.texts.specs.Puts.{Put, PutIfRoom}
 use Rattle.words.specs.Messages.{said_text, meaning_text, hint_text, refused_text, nine_text}
 
 -- Either of two texts.

@@ -1,13 +1,7 @@
 -- `words::has_lf` meets its contract: what has been seen, with what is still to come, stays the answer.
 -- Assumes nothing.
-use Prim.Native.Nat.{ℕ, ◌≤◌, ◌-◌}
-use mathlib.Core.Bool.{Bool, ◌||◌}
-use mathlib.Core.Path.{◌≡◌, ◌∙◌, sym}
+use mathlib.Core.Path.{◌∙◌, sym}
 use native.Mathlib.Omega.{arith}
-use lib.Dec.{eqb}
-use lib.ListN.{length, drop}
-use Rattle.common.specs.Ascii.{lf}
-use Rattle.common.specs.Lists.{some}
 use Rattle.common.proofs.Loops.{some_start, some_turn, some_end}
 use Rattle.words.specs.Messages.{has_lf}
 use borrow.Author.Rules.{rules}

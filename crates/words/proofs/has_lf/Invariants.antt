@@ -2,15 +2,11 @@
 -- Assumes nothing.
 use Prim.Native.Nat.{ℕ, ◌≤◌, ◌-◌}
 use mathlib.Core.Bool.{Bool, ◌||◌}
-use mathlib.Core.Path.{◌≡◌, ◌∙◌, sym}
-use native.Mathlib.Omega.{arith}
+use mathlib.Core.Path.{◌≡◌}
 use lib.Dec.{eqb}
 use lib.ListN.{length, drop}
 use Rattle.common.specs.Ascii.{lf}
 use Rattle.common.specs.Lists.{some}
-use Rattle.common.proofs.Loops.{some_start, some_turn, some_end}
-use Rattle.words.specs.Messages.{has_lf}
-use borrow.Author.Rules.{rules}
 use Rattle.words.proofs.has_lf.Given as goal
 
 abbrev pub is_lf : ℕ → Bool

@@ -4,7 +4,7 @@ use mathlib.Core.List.{append-nil}
 use mathlib.Core.Path.{sym}
 use borrow.Author.Tests.{eq-eqb, ne_eqb}
 use Rattle.texts.proofs.Pieces.{same, and}
-use Rattle.words.specs.Messages.{refused_text, meaning_text}
+use Rattle.words.specs.Messages.{refused_text}
 use Rattle.words.proofs.put_refused.Goals as goal
 
 pub returns-then-line-eq1 : goal.returns-then-line-eq1

@@ -1,9 +1,9 @@
 -- `words::refused` meets its contract: the line fits, and is said.
 -- Assumes nothing.
 use native.Mathlib.Omega.{arith}
-use mathlib.Core.Path.{ap, sym, ◌∙◌}
-use lib.ListN.{length, length-take}
-use Rattle.words.specs.Messages.{is_at_once, refused_text}
+use mathlib.Core.Path.{ap, ◌∙◌}
+use lib.ListN.{length-take}
+use Rattle.words.specs.Messages.{is_at_once}
 use Rattle.words.proofs.Sizes.{refused_fits}
 use borrow.Author.Rules.{rules}
 use Rattle.words.proofs.refused.Goals as goal
