@@ -11,7 +11,6 @@ use lib.ListN.{length}
 use Rattle.texts.specs.Puts.{put_of, PutIfRoom}
 use Rattle.commands.specs.declared.saving.Loaded.{Loaded}
 use Rattle.plain.specs.Plain.{plain_of}
-use Rattle.commands.specs.declared.images.Shown.{Shown}
 use Rattle.commands.specs.Words.{LoadedFrom, blank_text, shown_text, ShownRight}
 
 -- With a line more where every item is 0, and without.

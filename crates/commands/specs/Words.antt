@@ -5,7 +5,6 @@ use Rattle.std.specs.Prelude.{ℕ, ◌≤◌, Bool, cond, ◌||◌, List, [], �
 use Rattle.common.specs.Ascii.{ascii, lf}
 use Rattle.common.specs.Decimal.{decimal}
 use Rattle.controller.specs.declared.State.{State}
-use Rattle.controller.specs.Start.{fresh_of}
 use Rattle.trace.specs.Header.{same_text}
 use Rattle.reading.specs.Rows.{has_started}
 use Rattle.plain.specs.Plain.{plain_of}

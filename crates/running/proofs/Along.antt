@@ -1,13 +1,13 @@
 -- What the loop has done so far: what came of the parts that were read is what was put out, and what is still to come. A step keeps this, and at
 -- the end nothing is still to come.
 -- Assumes nothing.
-use Rattle.std.proofs.Common.{◌≡◌, ℕ, zero, suc, ◌+◌, ◌-◌, ◌%◌, ◌^◌, ◌<◌, ◌≤◌, Bool, true, false, not, ◌&&◌, ◌||◌, T, ltb, List, [], ◌∷◌, ◌++◌, length, take, drop, replicate, sym, refl, ap, ◌∙◌, subst, append_assoc, append-nil, arith, eqb→eq, length-append, length-take, drop-drop, ltb-false, ltb-true}
+use Rattle.std.proofs.Common.{◌≡◌, ℕ, zero, suc, ◌+◌, ◌-◌, ◌%◌, ◌^◌, ◌<◌, ◌≤◌, Bool, true, false, ◌||◌, T, ltb, List, [], ◌∷◌, ◌++◌, length, take, drop, replicate, sym, refl, ap, ◌∙◌, subst, append_assoc, append-nil, arith, eqb→eq, length-append, length-take, drop-drop, ltb-false, ltb-true}
 use lib.Seq.{take-nil}
 use Rattle.controller.specs.declared.State.{State}
 use Rattle.reading.specs.Parts.{line_bytes}
 use Rattle.reading.specs.Runs.{input_of}
 use Rattle.loops.specs.declared.Progress.{Progress}
-use Rattle.loops.specs.Progresses.{read_part, not_read, goes_on, left_in}
+use Rattle.loops.specs.Progresses.{read_part, goes_on, left_in}
 use Rattle.loops.proofs.Laws.{stops_at_the_end_or_a_refusal}
 use Rattle.running.specs.declared.Task.{Task}
 use Rattle.running.specs.declared.Work.{Work}

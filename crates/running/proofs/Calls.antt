@@ -1,6 +1,6 @@
 -- What the calls of the crates below come to in a work, and what a step and the end of the loop come to.
 -- Assumes nothing.
-use Rattle.std.proofs.Common.{◌≡◌, ℕ, ◌+◌, ◌-◌, ◌%◌, ◌^◌, ◌≤◌, Bool, true, T, List, length, take, drop, sym, ap, ◌∙◌, arith, lit≤, length-drop, length-take}
+use Rattle.std.proofs.Common.{◌≡◌, ℕ, ◌+◌, ◌%◌, ◌^◌, ◌≤◌, Bool, true, T, List, length, sym, ap, ◌∙◌, arith, lit≤, length-take}
 use Rattle.common.specs.Ascii.{joined_by_commas}
 use Rattle.texts.specs.Puts.{Put, put_of}
 use Rattle.texts.proofs.Placing.{did_put, front_next, front_line}

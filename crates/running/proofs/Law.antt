@@ -1,11 +1,9 @@
 -- What is right of a call of a work, by its task: the laws of the crates below. And what the whole run of a work from its start is.
 -- Assumes nothing.
-use Rattle.std.proofs.Common.{◌≡◌, ℕ, ◌≤◌, Bool, true, false, List, [], ◌++◌, length, replicate, sym, refl, ap, ◌∙◌, arith}
+use Rattle.std.proofs.Common.{◌≡◌, ℕ, ◌≤◌, Bool, true, false, List, [], length, replicate, sym, refl, ap, ◌∙◌, arith}
 use Rattle.lines.specs.Rows.{rows_of}
 use Rattle.lines.proofs.Law.{start_law}
 use Rattle.controller.specs.declared.State.{State}
-use Rattle.output.specs.Rows.{header_text}
-use Rattle.dump.specs.declared.Dump.{Dump}
 use Rattle.reading.specs.declared.Phase.{Phase}
 use Rattle.reading.specs.declared.Phase.TheVariants.{Header, Rows as InRows, Ended}
 use Rattle.reading.specs.declared.Came.TheVariants.{Nothing}
@@ -13,7 +11,7 @@ use Rattle.reading.specs.declared.Run.{Run}
 use Rattle.reading.specs.Rows.{has_ended, read_from}
 use Rattle.reading.specs.Whole.{read_to}
 use Rattle.reading.specs.Parts.{line_bytes, between, run_from}
-use Rattle.reading.specs.Runs.{Teller, Outcome, to_come}
+use Rattle.reading.specs.Runs.{Teller, to_come}
 use Rattle.reading.proofs.ByParts.{ended_nothing_to_come, left_of_rows}
 use Rattle.lesson.specs.Replay.{text_told, written_of, resumed_of}
 use Rattle.lesson.specs.Parts.{fill_of as fill_rows, finish_of as last_row}
@@ -25,35 +23,11 @@ use Rattle.dumping.specs.Moments.{waves_from}
 use Rattle.dumping.proofs.Whole.{nothing_told}
 use Rattle.dumping.proofs.Law as dumps
 use Rattle.sheets.specs.Sheets.{sheet_of}
-use Rattle.sheets.specs.Runs.{fill_of as fill_sheet, finish_of as last_line, to_come as sheet_to_come}
 use Rattle.sheets.proofs.Law as sheet_law
 use Rattle.running.specs.declared.Task.{Task}
 use Rattle.running.specs.declared.Task.TheVariants.{Rows, Image, Waves, Sheet}
 use Rattle.running.specs.declared.Work.{Work}
-use Rattle.running.specs.Works.{
-  work_of,
-  with_run,
-  is_ended,
-  room,
-  rows_answer,
-  image_answer,
-  waves_answer,
-  fill_by,
-  fill_of,
-  last_by,
-  last_of,
-  Come,
-  rows_come,
-  image_come,
-  waves_come,
-  sheet_come,
-  all_by,
-  all_of,
-  Right,
-  RightLast,
-  rest_by,
-  whole_of,
-}
+use Rattle.running.specs.Works.{work_of, with_run, is_ended, room, fill_by, fill_of, last_by, last_of, Come, rows_come, image_come, waves_come, sheet_come, all_of, Right, RightLast, rest_by, whole_of}
 
 -- ---- A call
 

@@ -1,12 +1,10 @@
 -- `running::all` meets its contract: what was done so far stays right with each step, and at the end it is all.
 -- Assumes nothing.
-use Rattle.std.proofs.Common.{◌≡◌, ◌≤◌, true, false, length, sym, refl, ◌∙◌, arith, rules}
-use borrow.Author.Tests.{not-true, not-false}
-use Rattle.loops.specs.Progresses.{at_first, goes_on}
+use Rattle.std.proofs.Common.{◌≡◌, true, sym, refl, ◌∙◌, arith, rules}
+use Rattle.loops.specs.Progresses.{goes_on}
 use Rattle.running.specs.Works.{is_ended, all_of}
-use Rattle.running.specs.Loops.{left_of}
 use Rattle.loops.proofs.Laws.{goes_on_before_the_end}
-use Rattle.running.proofs.Along.{Along, begins, stepped, finished}
+use Rattle.running.proofs.Along.{begins, stepped, finished}
 use Rattle.running.proofs.all.Goals as goal
 
 pub loop-init : goal.loop-init

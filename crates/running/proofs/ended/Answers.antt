@@ -2,7 +2,6 @@
 -- Assumes nothing.
 use borrow.Author.Tests.{not-false}
 use Rattle.running.proofs.Calls.{at_last}
-use Rattle.std.proofs.Common.{rules}
 use Rattle.running.proofs.ended.Goals as goal
 
 pub returns-then-not-progress : goal.returns-then-not-progress

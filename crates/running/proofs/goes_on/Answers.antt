@@ -1,6 +1,6 @@
 -- `running::goes_on` meets its contract.
 -- Assumes nothing.
-use Rattle.std.proofs.Common.{ap, ◌∙◌, rules}
+use Rattle.std.proofs.Common.{ap, ◌∙◌}
 use Rattle.loops.specs.Progresses.{goes_on}
 use Rattle.running.proofs.goes_on.Goals as goal
 

@@ -1,11 +1,10 @@
 -- `running::header_of_rows` meets its contract: the header fits, and is written in front.
 -- Assumes nothing.
-use Rattle.std.proofs.Common.{sym, ap, arith, rules}
+use Rattle.std.proofs.Common.{sym, ap, arith}
 use Rattle.output.specs.Rows.{header_text}
 use Rattle.lesson.specs.Writes.{bytes_of}
 use Rattle.lesson.proofs.Writing.{told_text}
 use Rattle.running.proofs.Calls.{header_fits}
-use Rattle.running.proofs.header_of_rows.Statement.{statement}
 use Rattle.running.proofs.header_of_rows.Goals as goal
 
 pub returns-in-Bytes : goal.returns-in-Bytes

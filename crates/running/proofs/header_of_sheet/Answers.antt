@@ -1,9 +1,8 @@
 -- `running::header_of_sheet` meets its contract: the header fits, and is put in front.
 -- Assumes nothing.
-use Rattle.std.proofs.Common.{arith, rules}
+use Rattle.std.proofs.Common.{arith}
 use Rattle.sheets.specs.Sheets.{sheet_header}
 use Rattle.running.proofs.Calls.{sheet_header_fits, told_put}
-use Rattle.running.proofs.header_of_sheet.Statement.{statement}
 use Rattle.running.proofs.header_of_sheet.Goals as goal
 
 pub returns : goal.returns

@@ -1,10 +1,9 @@
 -- `running::put_header` meets its contract: by the task.
 -- Assumes nothing.
-use Rattle.std.proofs.Common.{sym, ap, ◌∙◌, rules}
+use Rattle.std.proofs.Common.{sym, ap, ◌∙◌}
 use Rattle.lesson.specs.Writes.{told}
 use Rattle.running.specs.declared.Task.{Task}
 use Rattle.running.specs.Works.{header_by}
-use Rattle.running.proofs.put_header.Statement.{statement}
 use Rattle.running.proofs.put_header.Goals as goal
 
 pub returns-in-Rows : goal.returns-in-Rows

@@ -1,6 +1,6 @@
 -- `running::run` meets its contract: the header, and the loop.
 -- Assumes nothing.
-use Rattle.std.proofs.Common.{ℕ, List, ap, rules}
+use Rattle.std.proofs.Common.{ℕ, List, ap}
 use Rattle.running.proofs.Along.{through_whole}
 use Rattle.running.proofs.run.Goals as goal
 

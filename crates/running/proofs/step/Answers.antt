@@ -1,6 +1,6 @@
 -- `running::step` meets its contract: by whether something is left of the part.
 -- Assumes nothing.
-use Rattle.std.proofs.Common.{refl, arith, rules}
+use Rattle.std.proofs.Common.{refl, arith}
 use Rattle.running.proofs.step.Goals as goal
 
 pub returns-then-progress-gt0 : goal.returns-then-progress-gt0

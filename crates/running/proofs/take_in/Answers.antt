@@ -1,6 +1,6 @@
 -- `running::take_in` meets its contract: what the call gives is taken over, and put out.
 -- Assumes nothing.
-use Rattle.std.proofs.Common.{◌≡◌, ◌-◌, arith, rules}
+use Rattle.std.proofs.Common.{◌≡◌, ◌-◌, arith}
 use Rattle.running.proofs.Calls.{took_in}
 use Rattle.running.proofs.take_in.Goals as goal
 

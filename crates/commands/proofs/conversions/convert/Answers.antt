@@ -5,7 +5,6 @@ use mathlib.Core.Path.{sym}
 use lib.Dec.{T}
 use lib.Seq.{length-take-le}
 use Rattle.commands.proofs.NoBytes.{read_within}
-use Rattle.commands.proofs.conversions.convert.Statement.{statement}
 use Rattle.commands.proofs.conversions.convert.Goals as goal
 
 pub slice_bounds-bytes-end : goal.slice_bounds-bytes-end

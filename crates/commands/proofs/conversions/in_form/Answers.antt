@@ -1,6 +1,5 @@
 -- `commands::conversions::in_form` meets its contract: by the form.
 -- Assumes nothing.
-use Rattle.commands.proofs.conversions.in_form.Statement.{statement}
 use Rattle.commands.proofs.conversions.in_form.Goals as goal
 
 pub returns-in-New : goal.returns-in-New

@@ -6,11 +6,9 @@ use mathlib.Core.List.{List}
 use mathlib.Core.Path.{◌≡◌, sym, ap, ◌∙◌}
 use lib.Dec.{lit≤}
 use lib.ListN.{length}
-use lib.Seq.{length-take-le}
 use Rattle.commands.specs.declared.conversions.Form.{Form}
 use Rattle.commands.specs.declared.conversions.Form.TheVariants.{New, Old}
 use Rattle.commands.specs.Words.{form_size}
-use Rattle.commands.proofs.conversions.keep.Statement.{statement}
 use borrow.Author.Rules.{rules}
 use Rattle.commands.proofs.conversions.keep.Goals as goal
 

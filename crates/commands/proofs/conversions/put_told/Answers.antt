@@ -2,7 +2,6 @@
 -- Assumes nothing.
 use Rattle.texts.proofs.Pieces.{put, and}
 use Rattle.commands.specs.Words.{converted_text}
-use Rattle.commands.proofs.conversions.put_told.Statement.{statement}
 use Rattle.commands.proofs.conversions.put_told.Goals as goal
 
 pub returns : goal.returns

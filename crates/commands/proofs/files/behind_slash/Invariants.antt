@@ -2,7 +2,6 @@
 -- Assumes nothing.
 use Prim.Native.Nat.{◌≤◌}
 use lib.ListN.{length}
-use borrow.Author.Rules.{rules}
 use Rattle.commands.proofs.files.behind_slash.Given as goal
 
 abbrev pub invariant-loop-n : goal.invariant-loop-n

@@ -1,7 +1,6 @@
 -- `commands::images::onward` meets its contract: the loop's, from the controller of an image that was taken.
 -- Assumes nothing.
 use Rattle.commands.proofs.Runs.{onward}
-use Rattle.commands.proofs.images.onward.Statement.{statement}
 use Rattle.commands.proofs.images.onward.Goals as goal
 
 pub returns-then-loaded : goal.returns-then-loaded

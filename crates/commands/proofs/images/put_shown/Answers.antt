@@ -2,7 +2,6 @@
 -- Assumes nothing.
 use Rattle.texts.proofs.Pieces.{put, and, same}
 use Rattle.commands.proofs.Shows.{blank_shown, no_blank_shown}
-use Rattle.commands.proofs.images.put_shown.Statement.{statement}
 use Rattle.commands.proofs.images.put_shown.Goals as goal
 
 pub returns-then-loaded : goal.returns-then-loaded

@@ -2,7 +2,6 @@
 -- Assumes nothing.
 use Rattle.texts.proofs.Pieces.{put, and}
 use Rattle.commands.specs.Words.{saved_text}
-use Rattle.commands.proofs.images.put_told.Statement.{statement}
 use Rattle.commands.proofs.images.put_told.Goals as goal
 
 pub returns : goal.returns

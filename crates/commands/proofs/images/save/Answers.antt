@@ -3,7 +3,6 @@
 use mathlib.Core.Path.{subst}
 use Rattle.controller.specs.declared.State.{State}
 use Rattle.commands.specs.Words.{SavedFrom}
-use Rattle.commands.proofs.images.save.Statement.{statement}
 use Rattle.commands.proofs.images.save.Goals as goal
 
 pub returns : goal.returns

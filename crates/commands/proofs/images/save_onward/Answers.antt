@@ -1,7 +1,6 @@
 -- `commands::images::save_onward` meets its contract: from the controller of an image that was taken, or nothing is run.
 -- Assumes nothing.
 use Rattle.commands.proofs.Runs.{saved_onward, not_onward}
-use Rattle.commands.proofs.images.save_onward.Statement.{statement}
 use Rattle.commands.proofs.images.save_onward.Goals as goal
 
 pub returns-then-loaded : goal.returns-then-loaded

@@ -2,7 +2,6 @@
 -- Assumes nothing.
 use Rattle.commands.proofs.Runs.{so}
 use Rattle.commands.proofs.Shows.{shows}
-use Rattle.commands.proofs.images.show.Statement.{statement}
 use Rattle.commands.proofs.images.show.Goals as goal
 
 pub returns-then-not-loaded : goal.returns-then-not-loaded

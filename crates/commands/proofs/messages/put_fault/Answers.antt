@@ -1,7 +1,6 @@
 -- `commands::messages::put_fault` meets its contract: each arm puts its own words.
 -- Assumes nothing.
 use Rattle.commands.proofs.Putting.{nothing}
-use Rattle.commands.proofs.messages.put_fault.Statement.{statement}
 use Rattle.commands.proofs.messages.put_fault.Goals as goal
 
 pub returns-in-Nothing : goal.returns-in-Nothing

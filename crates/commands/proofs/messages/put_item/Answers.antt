@@ -1,7 +1,6 @@
 -- `commands::messages::put_item` meets its contract: the refusal, and its name.
 -- Assumes nothing.
 use Rattle.commands.proofs.Putting.{put, and}
-use Rattle.commands.proofs.messages.put_item.Statement.{statement}
 use Rattle.commands.proofs.messages.put_item.Goals as goal
 
 pub returns : goal.returns

@@ -3,7 +3,6 @@
 use borrow.Author.Tests.{lt-ltb, le-ltb}
 use Rattle.commands.specs.Messages.{length_words}
 use Rattle.commands.proofs.Putting.{put, and}
-use Rattle.commands.proofs.messages.put_length.Statement.{statement}
 use Rattle.commands.proofs.messages.put_length.Goals as goal
 
 pub returns-then-read-gt-SIZE : goal.returns-then-read-gt-SIZE

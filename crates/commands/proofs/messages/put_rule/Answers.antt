@@ -1,7 +1,6 @@
 -- `commands::messages::put_rule` meets its contract: the refusal, and its name.
 -- Assumes nothing.
 use Rattle.commands.proofs.Putting.{put, and}
-use Rattle.commands.proofs.messages.put_rule.Statement.{statement}
 use Rattle.commands.proofs.messages.put_rule.Goals as goal
 
 pub returns : goal.returns

@@ -2,7 +2,6 @@
 -- Assumes nothing.
 use native.Mathlib.Omega.{arith}
 use lib.ListN.{length-take}
-use Rattle.commands.proofs.messages.say_fault.Statement.{statement}
 use Rattle.commands.proofs.messages.say_fault.Goals as goal
 
 pub slice_bounds-text-end : goal.slice_bounds-text-end

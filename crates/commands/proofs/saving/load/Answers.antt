@@ -3,7 +3,6 @@
 use native.Mathlib.Omega.{arith}
 use lib.ListN.{length-take}
 use Rattle.commands.proofs.NoBytes.{of_nothing, of_bytes}
-use Rattle.commands.proofs.saving.load.Statement.{statement}
 use Rattle.commands.proofs.saving.load.Goals as goal
 
 pub returns-then-buffer-lt-ROOM : goal.returns-then-buffer-lt-ROOM

@@ -4,7 +4,6 @@ use mathlib.Core.Bool.{false}
 use mathlib.Core.Path.{ap, ◌∙◌}
 use Rattle.controller.specs.declared.State.{State}
 use Rattle.commands.proofs.NoBytes.{nothing_loaded}
-use Rattle.commands.proofs.saving.not_read.Statement.{statement}
 use Rattle.commands.proofs.saving.not_read.Goals as goal
 
 pub returns : goal.returns

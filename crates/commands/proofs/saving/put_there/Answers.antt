@@ -2,7 +2,6 @@
 -- Assumes nothing.
 use native.Mathlib.Omega.{arith}
 use lib.ListN.{length-take}
-use Rattle.commands.proofs.saving.put_there.Statement.{statement}
 use Rattle.commands.proofs.saving.put_there.Goals as goal
 
 pub slice_bounds-beside-end : goal.slice_bounds-beside-end

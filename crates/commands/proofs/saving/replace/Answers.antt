@@ -3,7 +3,6 @@
 use mathlib.Core.Path.{sym, ap, ◌∙◌}
 use Rattle.controller.specs.declared.Answer.{Answer}
 use Rattle.image.specs.Images.{load_of}
-use Rattle.commands.proofs.saving.replace.Statement.{statement}
 use Rattle.commands.proofs.saving.replace.Goals as goal
 
 pub returns-then-may_replace : goal.returns-then-may_replace

@@ -2,7 +2,6 @@
 -- Assumes nothing.
 use Rattle.image.specs.Images.{load_of}
 use Rattle.commands.specs.Loading.{loaded_of}
-use Rattle.commands.proofs.saving.take_in.Statement.{statement}
 use Rattle.commands.proofs.saving.take_in.Goals as goal
 
 pub returns : goal.returns

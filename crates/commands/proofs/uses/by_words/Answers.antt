@@ -4,7 +4,6 @@ use mathlib.Core.Path.{sym, ◌∙◌}
 use Rattle.common.specs.Ascii.{ascii}
 use Rattle.trace.specs.Header.{same_text}
 use Rattle.commands.proofs.OneOf.{the_first, the_second, the_third, the_fourth}
-use Rattle.commands.proofs.uses.by_words.Statement.{statement}
 use Rattle.commands.proofs.uses.by_words.Goals as goal
 
 pub returns-then-is : goal.returns-then-is

@@ -1,7 +1,6 @@
 -- `commands::uses::is` meets its contract: the kit's `same` compares them.
 -- Assumes nothing.
 use Rattle.trace.proofs.Texts.{as_same}
-use Rattle.commands.proofs.uses.is.Statement.{statement}
 use Rattle.commands.proofs.uses.is.Goals as goal
 
 pub returns : goal.returns

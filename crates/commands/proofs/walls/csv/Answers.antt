@@ -7,7 +7,6 @@ use mathlib.Core.Path.{ap, ◌∙◌}
 use Rattle.chart.specs.Csv.{csv_text}
 use Rattle.chart.proofs.Lengths.{csv_length}
 use Rattle.commands.proofs.Shows.{all_put}
-use Rattle.commands.proofs.walls.csv.Statement.{statement}
 use Rattle.commands.proofs.walls.csv.Goals as goal
 
 pub returns : goal.returns

@@ -7,7 +7,6 @@ use mathlib.Core.Path.{ap, ◌∙◌}
 use Rattle.chart.specs.Page.{page_text}
 use Rattle.chart.proofs.Lengths.{page_length}
 use Rattle.commands.proofs.Shows.{all_put}
-use Rattle.commands.proofs.walls.page.Statement.{statement}
 use Rattle.commands.proofs.walls.page.Goals as goal
 
 pub returns : goal.returns

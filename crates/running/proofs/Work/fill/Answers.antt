@@ -1,8 +1,6 @@
 -- `running::Work::fill` meets its contract: by the task.
 -- Assumes nothing.
 use Rattle.running.proofs.Calls.{fills_rows, fills_image, fills_waves, fills_sheet}
-use Rattle.std.proofs.Common.{rules}
-use Rattle.running.proofs.Work.fill.Statement.{statement}
 use Rattle.running.proofs.Work.fill.Goals as goal
 
 pub returns-in-Rows : goal.returns-in-Rows

@@ -1,8 +1,6 @@
 -- `running::Work::from` meets its contract: a run, a dump and a sheet at their start.
 -- Assumes nothing.
 use Rattle.running.specs.Works.{work_of}
-use Rattle.std.proofs.Common.{rules}
-use Rattle.running.proofs.Work.from.Statement.{statement}
 use Rattle.running.proofs.Work.from.Goals as goal
 
 pub returns : goal.returns

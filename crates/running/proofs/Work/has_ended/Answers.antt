@@ -1,10 +1,9 @@
 -- `running::Work::has_ended` meets its contract: by the task.
 -- Assumes nothing.
-use Rattle.std.proofs.Common.{sym, ap, ◌∙◌, rules}
+use Rattle.std.proofs.Common.{sym, ap, ◌∙◌}
 use Rattle.reading.specs.Rows.{has_ended}
 use Rattle.running.specs.declared.Task.{Task}
 use Rattle.running.specs.Works.{ended_by, is_ended}
-use Rattle.running.proofs.Work.has_ended.Statement.{statement}
 use Rattle.running.proofs.Work.has_ended.Goals as goal
 
 pub returns-in-Rows : goal.returns-in-Rows

@@ -1,8 +1,6 @@
 -- `running::Work::last` meets its contract: by the task.
 -- Assumes nothing.
 use Rattle.running.proofs.Calls.{lasts_rows, lasts_image, lasts_waves, lasts_sheet}
-use Rattle.std.proofs.Common.{rules}
-use Rattle.running.proofs.Work.last.Statement.{statement}
 use Rattle.running.proofs.Work.last.Goals as goal
 
 pub returns-in-Rows : goal.returns-in-Rows

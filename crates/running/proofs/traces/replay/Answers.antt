@@ -1,10 +1,9 @@
 -- `running::traces::replay` meets its contract: the loop's, from a fresh controller.
 -- Assumes nothing.
-use Rattle.std.proofs.Common.{subst, rules}
+use Rattle.std.proofs.Common.{subst}
 use Rattle.controller.specs.declared.State.{State}
 use Rattle.running.specs.declared.Task.TheVariants.{Rows}
 use Rattle.running.specs.Loops.{RanFrom}
-use Rattle.running.proofs.traces.replay.Statement.{statement}
 use Rattle.running.proofs.traces.replay.Goals as goal
 
 pub returns : goal.returns
