@@ -1,7 +1,7 @@
 #!/usr/bin/env python3
 """draw CYLINDERS ROWS: a picture (SVG) of a simulated lesson on standard output: where doors and gears stand over time, and the orders and
-lamps. CYLINDERS is what `simulate cylinders` writes, ROWS what `replay` writes of `simulate trace` with the same words. Both are read as they
-stand; a picture is no proof. Status 1 where the two are not of one lesson."""
+lamps. CYLINDERS is what `simulate cylinders` writes, ROWS what `replay` writes of `simulate trace` with the same words (request K8, under way:
+`simulate` is not there yet). Both are read as they stand; a picture is no proof. Status 1 where the two are not of one lesson."""
 import csv
 import sys
 

@@ -1,4 +1,4 @@
--- `trace::is_header` meets its contract: the bytes that it compares with are the header's, and the kit's `same` compares them.
+-- `trace::is_header` meets its contract: the bytes that it compares with are the header's, and `==` of slices compares them.
 -- Assumes nothing.
 use Rattle.common.specs.Ascii.{joined_by_commas}
 use Rattle.names.specs.Words.{sensor_names}

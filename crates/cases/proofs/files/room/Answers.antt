@@ -2,7 +2,6 @@
 -- Assumes nothing.
 use Rattle.std.proofs.Common.{ℕ, sym}
 use lib.ListN.{length-replicate}
-use Rattle.cases.proofs.files.room.Statement.{statement}
 use Rattle.cases.proofs.files.room.Goals as goal
 
 pub returns : goal.returns

@@ -1,7 +1,6 @@
 -- `cases::values::runs` is safe and ends: each turn goes on at a higher place of the dump.
 -- Assumes nothing.
-use Rattle.std.proofs.Common.{◌≡◌, ◌-◌, length, rules}
-use Rattle.cases.proofs.values.runs.Statement.{statement}
+use Rattle.std.proofs.Common.{◌≡◌, ◌-◌, length}
 use Rattle.cases.proofs.values.runs.Given as goal
 
 abbrev pub invariant-loop-from : goal.invariant-loop-from

@@ -1,7 +1,6 @@
 -- `cases::values::shows` is safe and ends: 26 turns.
 -- Assumes nothing.
-use Rattle.std.proofs.Common.{◌≡◌, ◌-◌, ◌≤◌, length, rules}
-use Rattle.cases.proofs.values.shows.Statement.{statement}
+use Rattle.std.proofs.Common.{◌≡◌, ◌-◌, ◌≤◌, length}
 use Rattle.cases.proofs.values.shows.Given as goal
 
 abbrev pub invariant-loop-i : goal.invariant-loop-i
