@@ -5,7 +5,8 @@
 names that a file imports from the toolchain, and names that Rattle makes (in a Proof.antt what stands behind `tie.`, `c.` and the like).
 The names are turned where they are declared and where they are cited: *.antt, clauses and comments of *.rt, must-fail edits, and in
 backticks in the pages. Strings stay. Two names of one file that would become one are printed, as is a name that a parameter would hide;
-WORDS says what such a name becomes. Run again it changes nothing. Behind it: rt fmt in each crate.
+WORDS says what such a name becomes. Run again it changes nothing. With --look it writes nothing and says how many would turn. It ends with
+status 1 where names meet. Behind it: rt fmt in each crate.
 """
 
 import collections
@@ -270,7 +271,8 @@ def main():
             if m.lastgroup == "comment":
                 spots += cited(m.group(), m.start(), table, False)
         changed[path] = text, sorted(spots)
-    for path in files("README.md", "docs/*.md", "peer/README.md", "crates/**/*.md"):
+    # docs/PORT.md tells old names beside new ones.
+    for path in sorted(set(files("README.md", "docs/*.md", "peer/README.md", "crates/**/*.md")) - {"docs/PORT.md"}):
         text = read(path)
         changed[path] = text, sorted(cited(text, 0, table))
     for path, (text, spots) in changed.items():
@@ -281,6 +283,7 @@ def main():
                 f.write(new)
     no_tactics()
     print(f"respell: {len(turned)} names turned, {n} meet another")
+    return 1 if n else 0
 
 
-main()
+sys.exit(main())
