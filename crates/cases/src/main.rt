@@ -26,7 +26,7 @@ struct Group {
 }
 
 fn main(rt: HostRuntime) {
-    let count = arguments::count(&rt);
+    let count = arguments::count(&rt, usize::MAX);
     let mut group = Group {
         letter: 0,
         head: 0,

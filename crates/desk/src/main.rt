@@ -4,6 +4,9 @@
 
 use words::{Streams, arguments, rooms};
 
+// More words than any use has.
+const MOST_WORDS: usize = 16;
+
 fn main(rt: HostRuntime) {
     let mut first = rooms::small();
     let mut second = rooms::large();
@@ -21,7 +24,7 @@ fn main(rt: HostRuntime) {
     commands::uses::by_words(
         &rt,
         &mut streams,
-        arguments::count(&rt),
+        arguments::count(&rt, MOST_WORDS),
         &first[..a],
         &second[..b],
         &third[..c],

@@ -1,4 +1,5 @@
--- No second answer meets the contract of a public function of this crate, but for `put`: what it answers is the operating system's too.
+-- No second answer meets the contract of a public function of this crate, but for `put`, `count` and `word`: what they answer is the operating
+-- system's too.
 -- (Whatever standard error is: `E` is its type.)
 -- Assumes nothing.
 use mathlib.Core.Path.{sym, ◌∙◌}
@@ -7,6 +8,10 @@ use denote.RattleType.{RattleType}
 use mir.Syntax.{Dict}
 use Rattle.std.specs.declared.io.traits.Write.{Ghosts}
 use Rattle.common.specs.OneAnswer.{OneAnswer}
+use Rattle.words.proofs.rooms.small.Kinds as small_kinds
+use Rattle.words.proofs.rooms.small.Reads as small_reads
+use Rattle.words.proofs.rooms.large.Kinds as large_kinds
+use Rattle.words.proofs.rooms.large.Reads as large_reads
 use Rattle.words.proofs.say.Kinds as say_kinds
 use Rattle.words.proofs.say.Reads as say_reads
 use Rattle.words.proofs.refused.Kinds as refused_kinds
@@ -25,3 +30,9 @@ refused_once E laws write dict κs a x y s t p q = p ∙ sym q
 pub nine_once : (E : RattleType) (laws : Laws E) (write : Ghosts E.Denot) (dict : Dict)
     → OneAnswer 3 (nine_kinds.ps E laws) (nine_kinds.r E laws) (nine_reads.Post E laws write dict)
 nine_once E laws write dict κs a x y s t p q = p ∙ sym q
+
+pub small_once : OneAnswer 0 small_kinds.ps small_kinds.r small_reads.Post
+small_once κs a x y s t p q = p.1 ∙ sym q.1
+
+pub large_once : OneAnswer 0 large_kinds.ps large_kinds.r large_reads.Post
+large_once κs a x y s t p q = p.1 ∙ sym q.1

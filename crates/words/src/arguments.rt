@@ -3,15 +3,17 @@ ghost use Rattle.std.specs.Prelude.{◌≤◌, length};
 
 use std::env::{Env, FillError};
 
-// How many there are.
-pub fn count<S: Env>(system: &S) -> usize {
+// How many there are, counted up to `most`.
+pub fn count<S: Env>(system: &S, most: usize) -> usize
+    ensures { result ≤ most }
+{
     let mut room = [0u8; 1];
-    for i in 0..usize::MAX {
+    for i in 0..most {
         if let Err(FillError::NotPresent) = system.arg(i, &mut room) {
             return i;
         }
     }
-    usize::MAX
+    most
 }
 
 // Puts one of them at the front of a buffer, and answers how many bytes it has; none where there is no such word, or no room for it.

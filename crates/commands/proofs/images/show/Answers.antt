@@ -9,4 +9,4 @@ returns-then-not-loaded g c = λ t. absurd t
 
 pub returns : goal.returns
 returns g c = λ t.
-    shows _ _ c.read-loaded.ensures (so _ c.if-not-loaded.false) c.small-out.ensures c.put_shown-put.ensures
+    shows _ _ c.read-loaded.ensures (so _ c.if-not-loaded.false) c.small-out.ensures.long c.put_shown-put.ensures
