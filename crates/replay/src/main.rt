@@ -3,13 +3,16 @@
 
 use words::{Streams, arguments};
 
+// Its own name, and a word more, which is one too many.
+const MOST_WORDS: usize = 2;
+
 fn main(rt: HostRuntime) {
     let mut streams = Streams {
         input: rt.stdin(),
         output: rt.stdout(),
         errors: rt.stderr(),
     };
-    if arguments::count(&rt) == 1 {
+    if arguments::count(&rt, MOST_WORDS) == 1 {
         running::traces::replay(&mut streams);
         return;
     }
