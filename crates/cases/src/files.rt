@@ -1,11 +1,15 @@
 // The files of a case: its name, and an ending for each.
-ghost use Rattle.std.specs.Prelude.{◌≡◌, ◌≤◌, length};
+ghost use Rattle.std.specs.Prelude.{◌≤◌, length};
 
-use crate::parts;
 use std::fs::File;
 use std::io::{Empty, Error, ErrorKind, Read, Stderr};
 use std::{fs, io};
+use texts::Line;
 use words::Streams;
+use words::rooms::{SMALL, zeros};
+
+// No file has more bytes.
+pub(crate) const ROOM: usize = 327680;
 
 // What a word of the programs reads from and writes to: from a file to a file, or to one from nothing.
 pub(crate) type Between = Streams<File, File, Stderr>;
@@ -14,36 +18,34 @@ pub(crate) type Onto = Streams<Empty, File, Stderr>;
 
 // Whether what was written to a file is what is stored, and that is there.
 pub(crate) fn same(rt: HostRuntime, written: &[u8], name: &[u8], ending: &[u8]) -> bool {
-    let mut bytes = room();
-    let mut stored = room();
-    let n = read(rt, written, b"", &mut bytes);
-    let m = read(rt, name, ending, &mut stored);
-    check::same(&bytes[..n], &stored[..m]) & has(rt, name, ending)
+    let mut one = zeros::<ROOM>();
+    let mut other = zeros::<ROOM>();
+    let written = read(rt, written, b"", &mut one);
+    let stored = read(rt, name, ending, &mut other);
+    written == stored && has(rt, name, ending)
 }
 
 // Whether both files are there: what a case is run on, and what must be written.
 pub(crate) fn both(rt: HostRuntime, name: &[u8], given: &[u8], written: &[u8]) -> bool {
-    has(rt, name, given) & has(rt, name, written)
+    has(rt, name, given) && has(rt, name, written)
 }
 
-// Room for any file.
-pub(crate) fn room() -> [u8; 327680]
-    ensures { 327680 ≡ length result }
-{
-    [0; 327680]
-}
-
-// Reads the file with this ending, and answers how many bytes it has.
-pub(crate) fn read(rt: HostRuntime, name: &[u8], ending: &[u8], into: &mut [u8]) -> usize
-    ensures { result ≤ length into.new }
-{
-    match open(rt, name, ending) {
+// Reads the file with this ending into a buffer, and gives its bytes.
+pub(crate) fn read<'a>(
+    rt: HostRuntime,
+    name: &[u8],
+    ending: &[u8],
+    into: &'a mut [u8],
+) -> &'a [u8] {
+    let n = match open(rt, name, ending) {
         Ok(file) => read_open(file, into),
         Err(_) => 0,
-    }
+    };
+    &into[..n]
 }
 
-// Reads an open file until the buffer is full, the file ends or a read fails, and answers how many bytes there are.
+// Reads an open file until the buffer is full, the file ends or a read fails, and answers how many bytes there are. (A read gives as many as it
+// likes.)
 fn read_open(mut file: File, into: &mut [u8]) -> usize
     ensures { result ≤ length into.new }
 {
@@ -60,9 +62,8 @@ fn read_open(mut file: File, into: &mut [u8]) -> usize
 
 // Opens it.
 pub(crate) fn open(rt: HostRuntime, name: &[u8], ending: &[u8]) -> io::Result<File> {
-    let mut path = words::rooms::small();
-    let n = put_path(&mut path, name, ending);
-    open_path(rt, &path[..n])
+    let mut room = zeros::<SMALL>();
+    open_path(rt, path(&mut room, name, ending))
 }
 
 // Opens the file that has this path, to be read.
@@ -105,13 +106,13 @@ pub(crate) fn remove(rt: HostRuntime, path: &[u8]) {
     }
 }
 
-// Puts its path at the front of a buffer, and answers how many bytes that is.
-pub(crate) fn put_path(path: &mut [u8], name: &[u8], ending: &[u8]) -> usize
-    ensures { result ≤ length path.new }
-{
-    let at = texts::put(path, 0, name);
-    let end = texts::put(path, at, ending);
-    parts::first(end, path)
+// Its path, put together in a buffer.
+pub(crate) fn path<'a>(room: &'a mut [u8], name: &[u8], ending: &[u8]) -> &'a [u8] {
+    let mut text = Line::new(room);
+    text.put(name);
+    text.put(ending);
+    let end = text.at;
+    room.get(..end).unwrap_or(b"")
 }
 
 // Whether it is there.
@@ -121,8 +122,5 @@ fn has(rt: HostRuntime, name: &[u8], ending: &[u8]) -> bool {
 
 // A path as a text, which the system's functions take alone.
 fn text_of(path: &[u8]) -> io::Result<&str> {
-    match std::str::from_utf8(path) {
-        Ok(text) => Ok(text),
-        Err(_) => Err(Error::from(ErrorKind::InvalidData)),
-    }
+    std::str::from_utf8(path).map_err(|_| Error::from(ErrorKind::InvalidData))
 }

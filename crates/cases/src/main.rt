@@ -8,108 +8,127 @@
 mod conversions;
 mod files;
 mod images;
-mod parts;
 mod runs;
 mod trial;
 mod values;
 
+use refusals::Refusal;
 use std::io::Write;
-use words::{arguments, rooms};
+use words::arguments;
+use words::rooms::{SMALL, zeros};
 
-// A group under way: the first letter of its word, by which it is run, the argument that has the word, and how many cases were as
-// stored.
+// What the cases of a group are, by its word.
+#[derive(Clone, Copy)]
+enum Kind {
+    Rows,
+    Dumps,
+    Values,
+    Broken,
+    Images,
+    Onward,
+    Words,
+    Forms,
+    Table,
+    // A word that says none of these.
+    Unknown,
+}
+
+impl Kind {
+    // What a word says that ends in a colon, by its first letter. Any other begins no group.
+    fn of(word: &[u8]) -> Option<Kind> {
+        match word {
+            [b'r', .., b':'] => Some(Kind::Rows),
+            [b'd', .., b':'] => Some(Kind::Dumps),
+            [b'v', .., b':'] => Some(Kind::Values),
+            [b'b', .., b':'] => Some(Kind::Broken),
+            [b'i', .., b':'] => Some(Kind::Images),
+            [b'o', .., b':'] => Some(Kind::Onward),
+            [b'w', .., b':'] => Some(Kind::Words),
+            [b'f', .., b':'] => Some(Kind::Forms),
+            [b't', .., b':'] => Some(Kind::Table),
+            [.., b':'] => Some(Kind::Unknown),
+            _ => None,
+        }
+    }
+}
+
+// A group under way: what its cases are, the argument that has its word, and how many of them were as stored.
 #[derive(Clone, Copy)]
 struct Group {
-    letter: u8,
+    kind: Kind,
     head: usize,
     same: u64,
 }
 
 fn main(rt: HostRuntime) {
-    let count = arguments::count(&rt, usize::MAX);
-    let mut group = Group {
-        letter: 0,
-        head: 0,
-        same: 0,
-    };
-    for i in 1..count {
+    let mut group = None;
+    for i in 1..arguments::count(&rt, usize::MAX) {
         group = take(rt, group, i);
     }
     total(rt, group);
     trial::all(rt);
 }
 
-// Takes an argument.
-fn take(rt: HostRuntime, group: Group, i: usize) -> Group {
-    let mut word = rooms::small();
-    let n = arguments::word(&rt, i, &mut word);
-    take_word(rt, group, i, &word[..n])
+// Takes an argument: the name of a case, or the word of the next group. (A buffer and a count: there is no heap.)
+fn take(rt: HostRuntime, group: Option<Group>, i: usize) -> Option<Group> {
+    let mut room = zeros::<SMALL>();
+    let n = arguments::word(&rt, i, &mut room);
+    let word = &room[..n];
+    if let Some(kind) = Kind::of(word) {
+        total(rt, group);
+        return Some(Group {
+            kind,
+            head: i,
+            same: 0,
+        });
+    }
+    take_case(rt, group, word)
 }
 
-// Takes the name of a case, or the word of the next group.
-fn take_word(rt: HostRuntime, group: Group, i: usize, word: &[u8]) -> Group {
-    let letter = letter_of(word);
-    if letter == 0 {
-        return Group {
-            letter: group.letter,
-            head: group.head,
-            same: std::num::wrapping_add_u64(group.same, as_stored(rt, group.letter, word)),
-        };
+// Runs a case, and counts it if it is as stored; of any other it says that it differs.
+fn take_case(rt: HostRuntime, group: Option<Group>, name: &[u8]) -> Option<Group> {
+    match group {
+        Some(group) if case(rt, group.kind, name) => Some(Group {
+            same: group.same.wrapping_add(1),
+            ..group
+        }),
+        _ => {
+            put(rt, name);
+            put(rt, b" DIFFERS\n");
+            group
+        }
     }
-    total(rt, group);
-    Group {
-        letter,
-        head: i,
-        same: 0,
-    }
-}
-
-// 1 for a case that is as stored; of any other it says that it differs.
-fn as_stored(rt: HostRuntime, letter: u8, name: &[u8]) -> u64 {
-    if case(rt, letter, name) {
-        return 1;
-    }
-    put(rt, name);
-    put(rt, b" DIFFERS\n");
-    0
-}
-
-// The first letter of the word of a group, which ends in a colon; 0 for any other.
-fn letter_of(word: &[u8]) -> u8 {
-    let n = word.len();
-    if n == 0 {
-        return 0;
-    }
-    if word[n - 1] == b':' {
-        return word[0];
-    }
-    0
 }
 
 // Runs a case, and answers whether it was as stored.
-fn case(rt: HostRuntime, letter: u8, name: &[u8]) -> bool {
-    match letter {
-        b'r' => runs::rows(rt, name),
-        b'd' => runs::dump(rt, name),
-        b'v' => runs::sheet(rt, name, 0) & values::case(rt, name, 0),
-        b'b' => runs::sheet(rt, name, 9) & values::case(rt, name, 9),
-        b'i' => runs::image(rt, name),
-        b'o' => runs::onward(rt, name),
-        b'w' => images::case(rt, name),
-        b'f' => conversions::case(rt, name),
-        b't' => runs::table(rt, name),
-        _ => false,
+fn case(rt: HostRuntime, kind: Kind, name: &[u8]) -> bool {
+    match kind {
+        Kind::Rows => runs::rows(rt, name),
+        Kind::Dumps => runs::dump(rt, name),
+        Kind::Values => read_back(rt, name, None),
+        Kind::Broken => read_back(rt, name, Some(Refusal::Dump)),
+        Kind::Images => runs::image(rt, name),
+        Kind::Onward => runs::onward(rt, name),
+        Kind::Words => images::case(rt, name),
+        Kind::Forms => conversions::case(rt, name),
+        Kind::Table => runs::table(rt, name),
+        Kind::Unknown => false,
     }
 }
 
+// A dump and its values, which ends in this refusal, if in any: the whole run, and moment by moment.
+fn read_back(rt: HostRuntime, name: &[u8], refusal: Option<Refusal>) -> bool {
+    runs::sheet(rt, name, refusal) & values::case(rt, name, refusal)
+}
+
 // Says how many cases of a group were as stored.
-fn total(rt: HostRuntime, group: Group) {
-    if group.letter == 0 {
+fn total(rt: HostRuntime, group: Option<Group>) {
+    let Some(group) = group else {
         return;
-    }
-    let mut word = rooms::small();
-    let n = arguments::word(&rt, group.head, &mut word);
-    put(rt, &word[..n]);
+    };
+    let mut room = zeros::<SMALL>();
+    let n = arguments::word(&rt, group.head, &mut room);
+    put(rt, &room[..n]);
     put(rt, b" ");
     let _ = rt.print(group.same);
     put(rt, b" as stored\n");

@@ -57,7 +57,7 @@ fn kept(rt: HostRuntime) {
 
 // A trace by `replay`.
 fn replay(rt: HostRuntime, path: &[u8]) {
-    say(rt, b"replay", b"", b"", b"", path);
+    say(rt, &[b"replay"], path);
     if let Ok(mut streams) = on_file(rt, path) {
         running::traces::replay(&mut streams);
     }
@@ -65,30 +65,25 @@ fn replay(rt: HostRuntime, path: &[u8]) {
 
 // A word by itself.
 fn alone(rt: HostRuntime, word: &[u8], path: &[u8]) {
-    say(rt, word, b"", b"", b"", path);
-    does(rt, 2, word, b"", b"", b"", path);
+    run(rt, &[word], path);
 }
 
 // The dump of a lesson that goes on from the image.
 fn waves_onward(rt: HostRuntime) {
-    say(rt, b"waves", &IMAGE, b"", b"", &ONWARD);
-    does(rt, 3, b"waves", &IMAGE, b"", b"", &ONWARD);
+    run(rt, &[b"waves", &IMAGE], &ONWARD);
 }
 
 fn wall(rt: HostRuntime, word: &[u8]) {
-    say(rt, b"wall", word, b"", b"", b"/dev/null");
-    does(rt, 3, b"wall", word, b"", b"", b"/dev/null");
+    run(rt, &[b"wall", word], b"/dev/null");
 }
 
 fn handover(rt: HostRuntime, word: &[u8], image: &[u8], path: &[u8]) {
-    say(rt, b"handover", word, image, b"", path);
-    does(rt, 4, b"handover", word, image, b"", path);
+    run(rt, &[b"handover", word, image], path);
 }
 
 // An image is converted; what then stands at the path.
 fn convert(rt: HostRuntime, word: &[u8], path: &[u8], image: &[u8]) {
-    say(rt, b"handover", word, path, image, b"/dev/null");
-    does(rt, 5, b"handover", word, path, image, b"/dev/null");
+    run(rt, &[b"handover", word, path, image], b"/dev/null");
     handover(rt, b"show", path, b"/dev/null");
 }
 
@@ -100,23 +95,15 @@ fn save(rt: HostRuntime, image: &[u8], path: &[u8]) {
 
 // The lesson is handed over again, from what stands at a path.
 fn save_onward(rt: HostRuntime, old: &[u8]) {
-    say(rt, b"handover", b"save", &IMAGE, old, &ONWARD);
-    does(rt, 5, b"handover", b"save", &IMAGE, old, &ONWARD);
+    run(rt, &[b"handover", b"save", &IMAGE, old], &ONWARD);
     handover(rt, b"show", &IMAGE, b"/dev/null");
 }
 
-// What the words ask for, with a file as its input.
-fn does(
-    rt: HostRuntime,
-    count: usize,
-    first: &[u8],
-    second: &[u8],
-    third: &[u8],
-    fourth: &[u8],
-    path: &[u8],
-) {
+// What the words ask for, with a file as its input; which they are is said first.
+fn run(rt: HostRuntime, words: &[&[u8]], path: &[u8]) {
+    say(rt, words, path);
     if let Ok(mut streams) = on_file(rt, path) {
-        by_words(&rt, &mut streams, count, first, second, third, fourth);
+        by_words(&rt, &mut streams, words);
     }
 }
 
@@ -130,21 +117,13 @@ fn on_file(rt: HostRuntime, path: &[u8]) -> io::Result<Streams<File, Stdout, Std
 }
 
 // Puts out which words come next, and what they read.
-fn say(rt: HostRuntime, first: &[u8], second: &[u8], third: &[u8], fourth: &[u8], path: &[u8]) {
+fn say(rt: HostRuntime, words: &[&[u8]], path: &[u8]) {
     put(rt, b"==");
-    word(rt, first);
-    word(rt, second);
-    word(rt, third);
-    word(rt, fourth);
-    word(rt, b"<");
-    word(rt, path);
-    put(rt, b"\n");
-}
-
-// A word, with the blank in front of it, if there is one.
-fn word(rt: HostRuntime, text: &[u8]) {
-    if text.len() != 0 {
+    for word in words {
         put(rt, b" ");
-        put(rt, text);
+        put(rt, word);
     }
+    put(rt, b" < ");
+    put(rt, path);
+    put(rt, b"\n");
 }

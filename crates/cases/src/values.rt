@@ -2,107 +2,108 @@
 // buffer holds their values. What is no dump must be refused behind those rows.
 ghost use Rattle.std.specs.Prelude.{◌<◌};
 
-use crate::{files, parts};
+use crate::files;
+use crate::files::ROOM;
+use dump::WIRES;
 use readback::{Reader, Took};
+use refusals::Refusal;
+use texts::Line;
+use words::rooms::zeros;
 
 // What the buffer for the values holds before the first call: no moment has it.
 const LENT: u8 = 2;
 
-// Whether a case is as stored, and ends in this refusal: 0, or 9 for what is no dump.
-pub(crate) fn case(rt: HostRuntime, name: &[u8], refusal: u8) -> bool {
-    run(rt, name, refusal, false) & run(rt, name, refusal, true)
+// Whether a case is as stored, and ends in this refusal, if in any.
+pub(crate) fn case(rt: HostRuntime, name: &[u8], refusal: Option<Refusal>) -> bool {
+    run(rt, name, refusal, 4096) & run(rt, name, refusal, 7)
 }
 
-// The header of what is stored.
-fn header(stored: &[u8]) -> usize {
-    let mut out = [0u8; 512];
-    let n = sheets::rows::put_header(&mut out, 0);
-    parts::stored_to(stored, 0, 0, &out, n)
-}
-
-// Whether its moments are in parts of one length.
-fn run(rt: HostRuntime, name: &[u8], refusal: u8, small: bool) -> bool {
-    let mut dump = files::room();
-    let mut stored = files::room();
-    let n = files::read(rt, name, b".vcd", &mut dump);
-    let m = files::read(rt, name, b".csv", &mut stored);
-    runs(&dump[..n], refusal, small, &stored[..m])
-}
-
-// The row of the moment that a call gives, where it gives one.
-fn row(took: Took, stored: &[u8], at: usize) -> usize {
-    if !took.given {
-        return at;
-    }
-    let reader = took.reader;
-    let mut out = [0u8; 128];
-    let values = reader.values;
-    let n = sheets::rows::put_row(&mut out, 0, took.time, values);
-    parts::stored_to(stored, at, 0, &out, n)
-}
-
-// The value of a wire in the row of what is stored that ends at a place. It ends in CRLF, and behind each other wire's value comes a
-// comma.
-fn value_at(stored: &[u8], at: usize, wire: usize) -> u8
-    requires { wire < 26 }
+// Whether its moments are in parts of so many bytes.
+fn run(rt: HostRuntime, name: &[u8], refusal: Option<Refusal>, size: usize) -> bool
+    requires { 0 < size }
 {
-    let back = 53 - 2 * wire;
-    if at < back {
-        return LENT;
+    let mut room = zeros::<ROOM>();
+    let mut other = zeros::<ROOM>();
+    let dump = files::read(rt, name, b".vcd", &mut room);
+    let stored = files::read(rt, name, b".csv", &mut other);
+    match behind_header(stored) {
+        Some(rows) => runs(dump, size, refusal, rows),
+        None => false,
     }
-    if stored.len() <= at - back {
-        return LENT;
-    }
-    std::num::wrapping_sub_u8(stored[at - back], b'0')
 }
 
-// Whether the buffer holds the values of the row that ends at a place, or what was lent where there is no row before it.
-fn shows(stored: &[u8], first: usize, at: usize, values: &[u8]) -> bool {
-    if at == first {
-        return check::same(values, &[LENT; 26]);
-    }
-    let mut told = [LENT; 26];
-    let mut i = 0;
-    while i < 26 {
-        told[i] = value_at(stored, at, i);
-        i += 1;
-    }
-    check::same(values, &told)
-}
-
-// The end of the dump: the row of the last moment must be all that is left.
-fn ends(
-    reader: Reader,
-    refusal: u8,
-    stored: &[u8],
-    first: usize,
-    at: usize,
-    values: &mut [u8],
-) -> bool {
-    let took = reader.finish(values);
-    let end = row(took, stored, at);
-    (took.refusal == refusal) & (end == stored.len()) & shows(stored, first, end, values)
+// What is stored behind the header.
+fn behind_header(stored: &[u8]) -> Option<&[u8]> {
+    let mut room = [0u8; 512];
+    let mut header = Line::new(&mut room);
+    sheets::rows::put_header(&mut header);
+    stored.strip_prefix(header.text())
 }
 
 // A whole dump, moment by moment: whether what is written, and what the lent buffer holds after each call, are as stored.
-fn runs(dump: &[u8], refusal: u8, small: bool, stored: &[u8]) -> bool {
-    let mut values = [LENT; 26];
+fn runs(dump: &[u8], size: usize, refusal: Option<Refusal>, stored: &[u8]) -> bool
+    requires { 0 < size }
+{
+    let mut rows = stored;
+    let mut due = [LENT; WIRES];
+    let mut values = [LENT; WIRES];
     let mut reader = Reader::new();
-    let first = header(stored);
-    let mut at = first;
-    let mut from = 0;
-    while from < dump.len() {
-        let end = parts::end(from, small, dump.len());
-        let took = reader.take(&dump[from..end], &mut values);
-        at = row(took, stored, at);
-        if !shows(stored, first, at, &values) {
-            return false;
+    for part in dump.chunks(size) {
+        let mut rest = part;
+        // (How much a call uses is the reader's to say.)
+        while !rest.is_empty() {
+            let took = match reader.take(rest, &mut values) {
+                Ok(took) => took,
+                Err(refused) => {
+                    return refusal == Some(refused.refusal) && rows.is_empty() && values == due;
+                }
+            };
+            let Some(others) = behind_row(took, rows, &mut due) else {
+                return false;
+            };
+            if values != due || took.used == 0 {
+                return false;
+            }
+            let Some(left) = rest.get(took.used..) else {
+                return false;
+            };
+            rows = others;
+            rest = left;
+            reader = took.reader;
         }
-        if took.refusal != 0 {
-            return (took.refusal == refusal) & (at == stored.len());
-        }
-        reader = took.reader;
-        from = parts::after(from, took.used, dump.len());
     }
-    (from == dump.len()) & ends(reader, refusal, stored, first, at, &mut values)
+    let ended = match reader.finish(&mut values) {
+        Ok(took) => {
+            let Some(others) = behind_row(took, rows, &mut due) else {
+                return false;
+            };
+            rows = others;
+            None
+        }
+        Err(refused) => Some(refused.refusal),
+    };
+    ended == refusal && rows.is_empty() && values == due
+}
+
+// The rows behind the one that a call gives, if it is the next, and what the buffer is due to hold then. Where the call gives none, all stays.
+fn behind_row<'a>(took: Took, rows: &'a [u8], due: &mut [u8; WIRES]) -> Option<&'a [u8]> {
+    let Some(time) = took.moment else {
+        return Some(rows);
+    };
+    let mut room = [0u8; sheets::ROOM];
+    let mut row = Line::new(&mut room);
+    sheets::rows::put_row(&mut row, time, took.reader.values);
+    *due = values_in(row.text());
+    rows.strip_prefix(row.text())
+}
+
+// The values in a row, which ends in CRLF; behind each other wire's value comes a comma.
+fn values_in(row: &[u8]) -> [u8; WIRES] {
+    let mut values = [LENT; WIRES];
+    if let Some(first) = row.len().checked_sub(2 * WIRES + 1) {
+        for (wire, value) in values.iter_mut().enumerate() {
+            *value = row[first + 2 * wire].wrapping_sub(b'0');
+        }
+    }
+    values
 }

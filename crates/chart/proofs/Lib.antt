@@ -1,8 +1,9 @@
 pub mod Aims
-pub mod Choices
+mod Differing
 pub mod Fields
 pub mod Lengths
 pub mod Once
 pub mod PageWorked
 pub mod Telling
+mod Turns
 pub mod Worked

@@ -16,9 +16,9 @@ use Rattle.sequence.specs.Moves.{at_aim, next_gears, doors_to_gears, doors_home,
 use Rattle.sequence.specs.Numbers.{doors_at, gears_at}
 use Rattle.table.specs.Table.{entries, in_the_air, facts_at, asked_at, next_of, place_number, place_at, ruled_at, changed_by_ground}
 use Rattle.table.proofs.Entries.{place_at_number}
-use Rattle.chart.specs.declared.differences.Deciding.{Deciding}
-use Rattle.chart.specs.declared.differences.Deciding.TheVariants.{Nothing, AllOpen, AllClosed, AllExtended, AllRetracted}
-use Rattle.chart.specs.Differences.{places_in_the_air, stand_at, kept_of, is_named, decides, decisive, some_changed, differs}
+use Rattle.std.specs.Prelude.{None, Some}
+use Rattle.chart.specs.declared.differences.Fact.TheVariants.{AllOpen, AllClosed, AllExtended, AllRetracted}
+use Rattle.chart.specs.Differences.{places_in_the_air, stand_at, Deciding, kept_of, is_named, decides, decisive, some_changed, differs}
 use Rattle.chart.specs.Headings.{first_shown}
 use Rattle.chart.specs.Telling.{told_of, told, is_up_extended, UnderItsHeadings}
 
@@ -116,20 +116,20 @@ module _ (test : Deciding → Bool) where
   or_else fact rest others true e named = subst T (sym e) tt
   or_else fact rest others false e named = others named
 
-  picked_passes : let pick = cond (test AllOpen) AllOpen
-      (cond (test AllClosed) AllClosed
-      (cond (test AllExtended) AllExtended (cond (test AllRetracted) AllRetracted Nothing))) in
+  picked_passes : let pick = cond (test (Some AllOpen)) (Some AllOpen)
+      (cond (test (Some AllClosed)) (Some AllClosed)
+      (cond (test (Some AllExtended)) (Some AllExtended) (cond (test (Some AllRetracted)) (Some AllRetracted) None))) in
       T (is_named pick) → T (test pick)
   picked_passes =
-      or_else AllOpen _
-      (or_else AllClosed _
-      (or_else AllExtended _
-      (or_else AllRetracted Nothing (λ none. absurd none) (test AllRetracted) refl)
-      (test AllExtended)
+      or_else (Some AllOpen) _
+      (or_else (Some AllClosed) _
+      (or_else (Some AllExtended) _
+      (or_else (Some AllRetracted) None (λ none. absurd none) (test (Some AllRetracted)) refl)
+      (test (Some AllExtended))
       refl)
-      (test AllClosed)
+      (test (Some AllClosed))
       refl)
-      (test AllOpen)
+      (test (Some AllOpen))
       refl
 
 -- Where a fact is named, what comes next with it alone and what comes next with none differ.

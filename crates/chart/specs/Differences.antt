@@ -1,7 +1,7 @@
 -- Requests K4 and K7: what comes next at each of the 64 places of ground, handle, doors and gears, the fact that makes a difference there,
 -- and the places that the ground changes.
 -- Assumes nothing.
-use Rattle.std.specs.Prelude.{ℕ, zero, suc, ◌+◌, ◌*◌, Bool, true, false, cond, not, ◌&&◌, ◌||◌, eqb}
+use Rattle.std.specs.Prelude.{ℕ, zero, suc, ◌+◌, ◌*◌, Bool, true, false, cond, not, ◌&&◌, ◌||◌, eqb, Option, None, Some}
 use Rattle.sequence.specs.declared.Aim.{Aim}
 use Rattle.sequence.specs.declared.Place.{Place}
 use Rattle.sequence.specs.declared.Seen.{Seen}
@@ -9,9 +9,8 @@ use Rattle.sequence.specs.Moves.{move_on}
 use Rattle.sequence.specs.Numbers.{doors_number, gears_number}
 use Rattle.table.specs.declared.Asked.{Asked}
 use Rattle.table.specs.Table.{asked_at, changed_by_ground}
-use Rattle.chart.specs.declared.differences.Deciding.{Deciding}
-use Rattle.chart.specs.declared.differences.Deciding.TheVariants.{Nothing, AllOpen, AllClosed, AllExtended, AllRetracted}
-use Rattle.chart.specs.declared.differences.Kept.{Kept}
+use Rattle.chart.specs.declared.differences.Fact.{Fact}
+use Rattle.chart.specs.declared.differences.Fact.TheVariants.{AllOpen, AllClosed, AllExtended, AllRetracted}
 
 -- ---- Places
 
@@ -33,6 +32,11 @@ abbrev pub place_of : ℕ → Place
 place_of k = (stand_at k).place
 
 -- Which of doors and gears stay as they were.
+pub record Kept : Type 0 where
+  pub doors : Bool
+  pub gears : Bool
+
+-- From one place to another.
 unfoldable pub kept_of : Place → Place → Kept
 kept_of from to =
     record {
@@ -50,21 +54,22 @@ stays kept = kept.doors && kept.gears
 abbrev seen : Bool → Bool → Bool → Bool → Seen
 seen opened closed extended retracted = record { opened = opened; closed = closed; extended = extended; retracted = retracted }
 
+-- The fact that makes a difference at a place, or none.
+abbrev pub Deciding : Type 0
+Deciding = Option Fact
+
 -- What is seen where a fact is seen by itself.
 abbrev pub alone : Deciding → Seen
-alone Nothing = seen false false false false
-alone AllOpen = seen true false false false
-alone AllClosed = seen false true false false
-alone AllExtended = seen false false true false
-alone AllRetracted = seen false false false true
+alone None = seen false false false false
+alone (Some AllOpen) = seen true false false false
+alone (Some AllClosed) = seen false true false false
+alone (Some AllExtended) = seen false false true false
+alone (Some AllRetracted) = seen false false false true
 
 -- A fact is named: the page says `if ..` and `else`, not `always`.
 abbrev pub is_named : Deciding → Bool
-is_named Nothing = false
-is_named AllOpen = true
-is_named AllClosed = true
-is_named AllExtended = true
-is_named AllRetracted = true
+is_named None = false
+is_named (Some fact) = true
 
 -- What comes next of what is asked, where a fact is seen by itself.
 abbrev pub next_with : Asked → Deciding → Place
@@ -72,15 +77,15 @@ next_with a fact = move_on a.grounded a.aim a.place (alone fact)
 
 -- A fact, seen by itself, makes a difference there.
 unfoldable pub decides : Asked → Deciding → Bool
-decides a fact = not (stays (kept_of (next_with a fact) (next_with a Nothing)))
+decides a fact = not (stays (kept_of (next_with a fact) (next_with a None)))
 
 -- The fact that makes a difference there.
 unfoldable pub decisive : Asked → Deciding
 decisive a =
-    cond (decides a AllOpen) AllOpen
-    (cond (decides a AllClosed) AllClosed
-    (cond (decides a AllExtended) AllExtended
-    (cond (decides a AllRetracted) AllRetracted Nothing)))
+    cond (decides a (Some AllOpen)) (Some AllOpen)
+    (cond (decides a (Some AllClosed)) (Some AllClosed)
+    (cond (decides a (Some AllExtended)) (Some AllExtended)
+    (cond (decides a (Some AllRetracted)) (Some AllRetracted) None)))
 
 -- ---- The ground
 

@@ -2,7 +2,7 @@
 -- at each, and the places that are others on ground. Facts that make no difference are left out, and places that no reached state is at are
 -- grey.
 -- Assumes nothing.
-use Rattle.std.specs.Prelude.{ℕ, ◌+◌, ◌*◌, Bool, cond}
+use Rattle.std.specs.Prelude.{ℕ, ◌+◌, ◌*◌, Bool, cond, None, Some}
 use Prim.Native.String.{String}
 use mathlib.Core.List.{List, [], ◌∷◌, ◌++◌, flatten}
 use Rattle.common.specs.Ascii.{ascii}
@@ -13,10 +13,8 @@ use Rattle.sequence.specs.declared.Place.{Place}
 use Rattle.sequence.specs.Places.{moving_have_open}
 use Rattle.names.specs.Words.{doors_word, gears_word}
 use Rattle.table.specs.Sums.{table_number}
-use Rattle.chart.specs.declared.differences.Deciding.{Deciding}
-use Rattle.chart.specs.declared.differences.Deciding.TheVariants.{Nothing, AllOpen, AllClosed, AllExtended, AllRetracted}
-use Rattle.chart.specs.declared.differences.Kept.{Kept}
-use Rattle.chart.specs.Differences.{places_in_the_air, stand_at, kept_of, stays, next_with, is_named, decisive, differs}
+use Rattle.chart.specs.declared.differences.Fact.TheVariants.{AllOpen, AllClosed, AllExtended, AllRetracted}
+use Rattle.chart.specs.Differences.{places_in_the_air, stand_at, Kept, Deciding, kept_of, stays, next_with, is_named, decisive, differs}
 use Rattle.chart.specs.Headings.{left, top, headings_text, ground_left, ground_top, first_shown, ground_headings_text}
 use Rattle.chart.specs.Parts.{
   line,
@@ -59,11 +57,11 @@ numbers_text k = numbers_piece ++ decimal (16 * k) ++ to_piece ++ decimal (16 * 
 
 -- When something comes next.
 abbrev pub when_word : Deciding → List ℕ
-when_word Nothing = always_piece
-when_word AllOpen = if_open_piece
-when_word AllClosed = if_closed_piece
-when_word AllExtended = if_extended_piece
-when_word AllRetracted = if_retracted_piece
+when_word None = always_piece
+when_word (Some AllOpen) = if_open_piece
+when_word (Some AllClosed) = if_closed_piece
+when_word (Some AllExtended) = if_extended_piece
+when_word (Some AllRetracted) = if_retracted_piece
 
 -- Its line.
 unfoldable pub when_text : Deciding → List ℕ
@@ -85,7 +83,7 @@ next_text from to = let kept = kept_of from to in cond (stays kept) stays_piece 
 
 -- What comes next where the fact that makes a difference is not seen.
 unfoldable pub else_text : Asked → List ℕ
-else_text a = otherwise_piece ++ next_text a.place (next_with a Nothing) ++ end_of_group_piece
+else_text a = otherwise_piece ++ next_text a.place (next_with a None) ++ end_of_group_piece
 
 -- A place with its frame and its numbers: what comes next where the fact that makes a difference is seen, and where it is not.
 unfoldable pub place_text : ℕ → ℕ → ℕ → List ℕ

@@ -170,10 +170,3 @@ ground_row_piece = line (ascii "gears</text>")
 -- The beginning of its line.
 abbrev pub table_piece : List ℕ
 table_piece = ascii "<text class='table' x='2840' y='4151'>table number "
-
--- ---- All of them
-
--- In the order of the list that the code has (src/parts.rt).
-unfoldable pub parts : List (List ℕ)
-parts =
-    group_piece ∷ possible_piece ∷ never_piece ∷ moved_piece ∷ space_piece ∷ rect_piece ∷ numbers_piece ∷ to_piece ∷ end_of_text_piece ∷ when_piece ∷ always_piece ∷ if_open_piece ∷ if_closed_piece ∷ if_extended_piece ∷ if_retracted_piece ∷ part_piece ∷ keeps_piece ∷ moves_piece ∷ doors_piece ∷ gears_piece ∷ stays_piece ∷ otherwise_piece ∷ end_of_group_piece ∷ handle_class ∷ aim_class ∷ head_class ∷ kind_class ∷ across_piece ∷ down_piece ∷ words_piece ∷ handle_piece ∷ aims_piece ∷ column_piece ∷ row_piece ∷ on_ground_piece ∷ acts_piece ∷ at_aim_piece ∷ ground_column_piece ∷ ground_row_piece ∷ table_piece ∷ []

@@ -1,30 +1,29 @@
 -- Requests K4 and K7: what a reader takes from the page. Each place names at most one fact, and tells what comes next with it and else. A
 -- place of the ground that is not shown is as in the air.
 -- Assumes nothing.
-use Rattle.std.specs.Prelude.{ℕ, ◌+◌, ◌*◌, ◌/◌, ◌%◌, Bool, false, cond, ◌&&◌, ◌≡◌}
+use Rattle.std.specs.Prelude.{ℕ, ◌+◌, ◌*◌, ◌/◌, ◌%◌, Bool, false, cond, ◌&&◌, ◌≡◌, None, Some}
 use Rattle.sequence.specs.declared.Place.{Place}
 use Rattle.sequence.specs.declared.Seen.{Seen}
 use Rattle.sequence.specs.Moves.{is_up}
 use Rattle.sequence.specs.Places.{are_extended}
 use Rattle.table.specs.declared.Asked.{Asked}
 use Rattle.table.specs.Table.{facts_at}
-use Rattle.chart.specs.declared.differences.Deciding.{Deciding}
-use Rattle.chart.specs.declared.differences.Deciding.TheVariants.{Nothing, AllOpen, AllClosed, AllExtended, AllRetracted}
-use Rattle.chart.specs.Differences.{places_in_the_air, stand_at, aim_at, place_of, next_with, decisive, differs}
+use Rattle.chart.specs.declared.differences.Fact.TheVariants.{AllOpen, AllClosed, AllExtended, AllRetracted}
+use Rattle.chart.specs.Differences.{places_in_the_air, stand_at, aim_at, place_of, Deciding, next_with, decisive, differs}
 use Rattle.chart.specs.Headings.{ground_left, first_shown}
 
 -- The named fact is among those that are seen. Where none is named, none is.
 abbrev pub is_among : Deciding → Seen → Bool
-is_among Nothing seen = false
-is_among AllOpen seen = seen.opened
-is_among AllClosed seen = seen.closed
-is_among AllExtended seen = seen.extended
-is_among AllRetracted seen = seen.retracted
+is_among None seen = false
+is_among (Some AllOpen) seen = seen.opened
+is_among (Some AllClosed) seen = seen.closed
+is_among (Some AllExtended) seen = seen.extended
+is_among (Some AllRetracted) seen = seen.retracted
 
 -- What the page tells of a place where these facts are seen: what stands under `if ..` where the named fact is among them, and
 -- else what stands under `else` or `always`.
 unfoldable pub told_of : Asked → Seen → Place
-told_of a seen = let fact = decisive a in cond (is_among fact seen) (next_with a fact) (next_with a Nothing)
+told_of a seen = let fact = decisive a in cond (is_among fact seen) (next_with a fact) (next_with a None)
 
 -- Where a reader looks for place k: there if it differs from the same place in the air, which is the one to look at otherwise.
 abbrev pub looked_at : ℕ → ℕ

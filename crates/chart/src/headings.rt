@@ -1,12 +1,14 @@
 // Where the places stand on the page, and the headings above and before them. The rule is specs/Headings.antt.
 // The text is put piece by piece: every function puts its piece if there is room for it.
 ghost use Rattle.std.specs.Prelude.{◌++◌, ◌≡◌, ◌≤◌};
-ghost use Rattle.names.specs.Words.{entry, handle_word};
-ghost use Rattle.texts.specs.Puts.{PutIfRoom};
+ghost use Rattle.std.specs.List.{flat_map};
+ghost use Rattle.names.specs.Words.{handle_word};
+ghost use Rattle.texts.specs.Lines.{PutsIfRoom};
 ghost use Rattle.chart.specs.Headings.{
   left,
   top,
   capitals,
+  aimed,
   heading_begin,
   handle_text,
   aim_text,
@@ -20,12 +22,12 @@ ghost use Rattle.chart.specs.Headings.{
   ground_row_text,
   ground_headings_text,
 };
-ghost use Rattle.chart.specs.Parts.{parts};
+ghost use Rattle.chart.specs.Parts.{end_of_text_piece};
 
+use crate::differences::stand_at;
 use crate::parts;
-use crate::parts::put_part;
 use sequence::{Aim, Gears};
-use table::Asked;
+use texts::Line;
 
 // How far down the page the places of the ground stand.
 pub(crate) const GROUND_TOP: u64 = 3601;
@@ -48,165 +50,163 @@ pub(crate) fn top(k: u8) -> u64
 pub(crate) fn ground_left(k: u8) -> u64
     ensures { result ≡ ground_left k }
 {
-    420 + 610 * ((k / 4 % 4) as u64)
+    left(k / 4)
 }
 
 // Puts the headings of the sixteen places from k on: their handle, their four columns, their four rows.
-pub(crate) fn put_headings(text: &mut [u8], at: usize, k: u8) -> usize
+pub(crate) fn put_headings(text: &mut Line, k: u8)
     requires { k ≤ 16 }
-    ensures { PutIfRoom text.old at (headings_text k) text.new result }
+    ensures { PutsIfRoom (headings_text k) text.old text.new }
 {
-    let next = put_handle(text, at, k);
-    let next = put_column(text, next, k);
-    let next = put_column(text, next, k + 1);
-    let next = put_column(text, next, k + 2);
-    let next = put_column(text, next, k + 3);
-    let next = put_row(text, next, k);
-    let next = put_row(text, next, k + 4);
-    let next = put_row(text, next, k + 8);
-    put_row(text, next, k + 12)
+    put_handle(text, k);
+    put_aim(text, k);
+    for i in 0..4 {
+        put_column(text, k + i);
+    }
+    for i in 0..4 {
+        put_row(text, k + 4 * i);
+    }
 }
 
 // Puts the headings of the four places of the ground from k on that differ in the doors: their handle, their four columns, their row. The
 // last of them, k + 12, is one of the 64.
-pub(crate) fn put_ground(text: &mut [u8], at: usize, k: u8) -> usize
+pub(crate) fn put_ground(text: &mut Line, k: u8)
     requires { k ≤ 51 }
-    ensures { PutIfRoom text.old at (ground_headings_text k) text.new result }
+    ensures { PutsIfRoom (ground_headings_text k) text.old text.new }
 {
-    let next = put_ground_handle(text, at, k);
-    let next = put_acts(text, next, k);
-    let next = put_ground_column(text, next, k);
-    let next = put_ground_column(text, next, k + 4);
-    let next = put_ground_column(text, next, k + 8);
-    let next = put_ground_column(text, next, k + 12);
-    put_ground_row(text, next, k)
+    put_ground_handle(text, k);
+    put_acts(text, k);
+    for i in 0..4 {
+        put_ground_column(text, k + 4 * i);
+    }
+    put_ground_row(text, k);
 }
 
-// Puts the handle of place k, and what it aims at: up, which is 0, at gears number 0, and down, which is 1, at number 2.
-fn put_handle(text: &mut [u8], at: usize, k: u8) -> usize
-    ensures { PutIfRoom text.old at (handle_text k ++ aim_text k) text.new result }
+// Puts the handle of place k.
+fn put_handle(text: &mut Line, k: u8)
+    ensures { PutsIfRoom (handle_text k) text.old text.new }
 {
-    let asked = Asked::numbered(16 * (k as usize));
-    let aim = asked.aim;
-    let gears = Gears::numbered(2 * (aim.number() as u32));
-    let down = top(k);
-    let begun = put_begin(text, at, parts::HANDLE_CLASS, 120, down - 125);
-    let said = put_part(text, begun, parts::HANDLE);
-    let named = put_capitals(text, said, aim);
-    let ended = put_part(text, named, parts::END);
-    let begun = put_begin(text, ended, parts::AIM_CLASS, 760, down - 125);
-    let said = put_part(text, begun, parts::AIMS_AT);
-    let named = names::put_gears(text, said, gears);
-    put_part(text, named, parts::END)
+    let words = [parts::HANDLE, capitals(stand_at(k).aim)];
+    put_heading(text, parts::HANDLE_CLASS, 120, top(k) - 125, &words);
+}
+
+// Puts what it aims at.
+fn put_aim(text: &mut Line, k: u8)
+    ensures { PutsIfRoom (aim_text k) text.old text.new }
+{
+    let words = [parts::AIMS_AT, names::gears_word(aimed(stand_at(k).aim))];
+    put_heading(text, parts::AIM_CLASS, 760, top(k) - 125, &words);
 }
 
 // Puts the gears of place k.
-fn put_column(text: &mut [u8], at: usize, k: u8) -> usize
-    ensures { PutIfRoom text.old at (column_text k) text.new result }
+fn put_column(text: &mut Line, k: u8)
+    ensures { PutsIfRoom (column_text k) text.old text.new }
 {
-    let asked = Asked::numbered(16 * (k as usize));
-    let place = asked.place;
-    let gears = place.gears;
-    let begun = put_begin(text, at, parts::HEAD_CLASS, left(k) + 28, top(k) - 30);
-    let said = put_part(text, begun, parts::COLUMN);
-    let named = names::put_gears(text, said, gears);
-    put_part(text, named, parts::END)
+    let words = [parts::COLUMN, names::gears_word(stand_at(k).place.gears)];
+    put_heading(text, parts::HEAD_CLASS, left(k) + 28, top(k) - 30, &words);
 }
 
 // Puts the doors of place k.
-fn put_row(text: &mut [u8], at: usize, k: u8) -> usize
-    ensures { PutIfRoom text.old at (row_text k) text.new result }
+fn put_row(text: &mut Line, k: u8)
+    ensures { PutsIfRoom (row_text k) text.old text.new }
 {
-    let asked = Asked::numbered(16 * (k as usize));
-    let place = asked.place;
-    let doors = place.doors;
-    let down = top(k);
-    let begun = put_begin(text, at, parts::KIND_CLASS, 120, down + 135);
-    let said = put_part(text, begun, parts::ROW);
-    let begun = put_begin(text, said, parts::HEAD_CLASS, 120, down + 200);
-    let named = names::put_doors(text, begun, doors);
-    put_part(text, named, parts::END)
+    let word = names::doors_word(stand_at(k).place.doors);
+    put_heading(text, parts::KIND_CLASS, 120, top(k) + 135, &[parts::ROW]);
+    put_heading(text, parts::HEAD_CLASS, 120, top(k) + 200, &[word]);
 }
 
 // Puts the handle of place k on ground.
-fn put_ground_handle(text: &mut [u8], at: usize, k: u8) -> usize
-    ensures { PutIfRoom text.old at (ground_handle_text k) text.new result }
+fn put_ground_handle(text: &mut Line, k: u8)
+    ensures { PutsIfRoom (ground_handle_text k) text.old text.new }
 {
-    let asked = Asked::numbered(16 * (k as usize));
-    let aim = asked.aim;
-    let begun = put_begin(text, at, parts::HANDLE_CLASS, 120, GROUND_TOP - 125);
-    let said = put_part(text, begun, parts::HANDLE);
-    let named = put_capitals(text, said, aim);
-    let grounded = put_part(text, named, parts::ON_GROUND);
-    put_part(text, grounded, parts::END)
+    let words = [parts::HANDLE, capitals(stand_at(k).aim), parts::ON_GROUND];
+    put_heading(text, parts::HANDLE_CLASS, 120, GROUND_TOP - 125, &words);
 }
 
 // Puts what the sequence does there with the gears of place k.
-fn put_acts(text: &mut [u8], at: usize, k: u8) -> usize
-    ensures { PutIfRoom text.old at (acts_text k) text.new result }
+fn put_acts(text: &mut Line, k: u8)
+    ensures { PutsIfRoom (acts_text k) text.old text.new }
 {
-    let asked = Asked::numbered(16 * (k as usize));
-    let place = asked.place;
-    let gears = place.gears;
-    let begun = put_begin(text, at, parts::AIM_CLASS, 1150, GROUND_TOP - 125);
-    let said = put_part(text, begun, parts::ACTS);
-    let named = names::put_gears(text, said, gears);
-    let aimed = put_part(text, named, parts::AT_AIM);
-    put_part(text, aimed, parts::END)
+    let words = [
+        parts::ACTS,
+        names::gears_word(stand_at(k).place.gears),
+        parts::AT_AIM,
+    ];
+    put_heading(text, parts::AIM_CLASS, 1150, GROUND_TOP - 125, &words);
 }
 
 // Puts the doors of place k, above it.
-fn put_ground_column(text: &mut [u8], at: usize, k: u8) -> usize
-    ensures { PutIfRoom text.old at (ground_column_text k) text.new result }
+fn put_ground_column(text: &mut Line, k: u8)
+    ensures { PutsIfRoom (ground_column_text k) text.old text.new }
 {
-    let asked = Asked::numbered(16 * (k as usize));
-    let place = asked.place;
-    let doors = place.doors;
-    let begun = put_begin(
+    let words = [
+        parts::GROUND_COLUMN,
+        names::doors_word(stand_at(k).place.doors),
+    ];
+    put_heading(
         text,
-        at,
         parts::HEAD_CLASS,
         ground_left(k) + 28,
         GROUND_TOP - 30,
+        &words,
     );
-    let said = put_part(text, begun, parts::GROUND_COLUMN);
-    let named = names::put_doors(text, said, doors);
-    put_part(text, named, parts::END)
 }
 
 // Puts the gears of place k, before its row.
-fn put_ground_row(text: &mut [u8], at: usize, k: u8) -> usize
-    ensures { PutIfRoom text.old at (ground_row_text k) text.new result }
+fn put_ground_row(text: &mut Line, k: u8)
+    ensures { PutsIfRoom (ground_row_text k) text.old text.new }
 {
-    let asked = Asked::numbered(16 * (k as usize));
-    let place = asked.place;
-    let gears = place.gears;
-    let begun = put_begin(text, at, parts::KIND_CLASS, 92, GROUND_TOP + 135);
-    let said = put_part(text, begun, parts::GROUND_ROW);
-    let begun = put_begin(text, said, parts::HEAD_CLASS, 92, GROUND_TOP + 200);
-    let named = names::put_gears(text, begun, gears);
-    put_part(text, named, parts::END)
+    let word = names::gears_word(stand_at(k).place.gears);
+    put_heading(
+        text,
+        parts::KIND_CLASS,
+        92,
+        GROUND_TOP + 135,
+        &[parts::GROUND_ROW],
+    );
+    put_heading(text, parts::HEAD_CLASS, 92, GROUND_TOP + 200, &[word]);
+}
+
+// Puts a heading: its class, where it stands, and its words.
+fn put_heading(text: &mut Line, class: &[u8], across: u64, down: u64, words: &[&[u8]])
+    ensures { PutsIfRoom (heading_begin class.now across down ++ flat_map (λ word. word.now) words.now ++ end_of_text_piece) text.old text.new }
+{
+    put_begin(text, class, across, down);
+    for word in words {
+        text.put(word);
+    }
+    text.put(parts::END);
 }
 
 // Puts the beginning of a heading: its class, and where it stands.
-fn put_begin(text: &mut [u8], at: usize, class: usize, across: u64, down: u64) -> usize
-    ensures { PutIfRoom text.old at (heading_begin (entry parts class) across down) text.new result }
+fn put_begin(text: &mut Line, class: &[u8], across: u64, down: u64)
+    ensures { PutsIfRoom (heading_begin class.now across down) text.old text.new }
 {
-    let opened = put_part(text, at, parts::LINE);
-    let classed = put_part(text, opened, class);
-    let sided = put_part(text, classed, parts::ACROSS);
-    let acrossed = texts::put_number(text, sided, across);
-    let lowered = put_part(text, acrossed, parts::DOWN);
-    let downed = texts::put_number(text, lowered, down);
-    put_part(text, downed, parts::WORDS)
+    text.put(parts::LINE);
+    text.put(class);
+    text.put(parts::ACROSS);
+    text.put_number(across);
+    text.put(parts::DOWN);
+    text.put_number(down);
+    text.put(parts::WORDS);
 }
 
-// Puts the handle's word in capitals: at most four small letters, with blanks behind them.
-fn put_capitals(text: &mut [u8], at: usize, aim: Aim) -> usize
-    ensures { PutIfRoom text.old at (capitals (handle_word aim)) text.new result }
+// The handle's word in capitals.
+fn capitals(aim: Aim) -> &'static [u8]
+    ensures { result.now ≡ capitals (handle_word aim) }
 {
-    let mut word = [b' '; 4];
-    let n = names::put_handle(&mut word, 0, aim);
-    let raised = [word[0] - 32, word[1] - 32, word[2] - 32, word[3] - 32];
-    texts::put(text, at, &raised[..n])
+    match aim {
+        Aim::ToRetracted => b"UP",
+        Aim::ToExtended => b"DOWN",
+    }
+}
+
+// The gears that are at an aim.
+fn aimed(aim: Aim) -> Gears
+    ensures { result ≡ aimed aim }
+{
+    match aim {
+        Aim::ToRetracted => Gears::Retracted,
+        Aim::ToExtended => Gears::Extended,
+    }
 }

@@ -1,8 +1,7 @@
 // The table as a page to print (SVG, A3 upright). The rule is specs/Page.antt.
 // The text is put piece by piece: every function puts its piece if there is room for it, and at the top there is.
 ghost use Rattle.std.specs.Prelude.{cond, [], ◌≡◌, ◌<◌};
-ghost use Rattle.names.specs.Words.{entry};
-ghost use Rattle.texts.specs.Puts.{PutIfRoom, put_of};
+ghost use Rattle.texts.specs.Lines.{Puts, PutsIfRoom};
 ghost use Rattle.chart.specs.Differences.{places_in_the_air, is_named};
 ghost use Rattle.chart.specs.Page.{
   frame_text,
@@ -18,14 +17,13 @@ ghost use Rattle.chart.specs.Page.{
   ground_part,
   page_text,
 };
-ghost use Rattle.chart.specs.Parts.{parts};
 
-use crate::differences::Deciding;
+use crate::differences::{Fact, decisive, next_with, stand_at};
 use crate::headings::{GROUND_TOP, ground_left, left, put_headings, top};
-use crate::parts::put_part;
 use crate::{differences, headings, parts};
 use sequence::Place;
 use table::Asked;
+use texts::Line;
 
 // There are so many places of handle, doors and gears in the air, and as many on ground.
 const PLACES_IN_THE_AIR: u8 = 32;
@@ -34,8 +32,8 @@ const PLACES_IN_THE_AIR: u8 = 32;
 const FIRST_SHOWN: u8 = 34;
 
 // The size, the styles and the title.
-const HEAD: [u8; 1219] =
-    *b"<svg xmlns='http://www.w3.org/2000/svg' width='297mm' height='420mm' viewBox='0 0 2970 4200'>\n\
+const HEAD: &[u8] =
+    b"<svg xmlns='http://www.w3.org/2000/svg' width='297mm' height='420mm' viewBox='0 0 2970 4200'>\n\
 <title>The landing gear sequence</title>\n\
 <style>\n\
 @page { size: 297mm 420mm; margin: 0 }\n\
@@ -59,8 +57,8 @@ rect { fill: #fff; stroke: #333; stroke-width: 4; rx: 12px }\n\
 <text x='120' y='295'>On ground, with handle UP and gears EXTENDED, look at the bottom instead. Bold and blue: what changes.</text>\n";
 
 // What a reader has to know.
-const TAIL: [u8; 738] =
-    *b"<text class='note' x='120' y='3967'>Grey: gears move only while the doors are OPEN, so no run comes to these places.</text>\n\
+const TAIL: &[u8] =
+    b"<text class='note' x='120' y='3967'>Grey: gears move only while the doors are OPEN, so no run comes to these places.</text>\n\
 <text class='note' x='120' y='4013'>All open, all closed: all three doors are seen so. All extended, all retracted: all three gears are seen so.</text>\n\
 <text class='note' x='120' y='4059'>Each sample makes at most one move, with an anomaly none. What is not named at a place makes no difference there.</text>\n\
 <text class='note' x='120' y='4105'>On ground: any of the three absorbers is seen on ground. What is not shown again there is the same as above.</text>\n\
@@ -70,184 +68,152 @@ const TAIL: [u8; 738] =
 // The page has so many bytes.
 const LENGTH: usize = 16017;
 
-// Puts the page into a lent buffer: the place after it, or the same place where there is no room for it.
-pub fn put_page(out: &mut [u8], at: usize) -> usize
-    ensures { (result, out.new) ≡ put_of out.old at page_text }
+// Puts the page into a line, if there is room for all of it.
+pub fn put_page(text: &mut Line)
+    ensures { Puts page_text text.old text.new }
 {
-    let size = out.len();
-    if size < at {
-        return at;
+    if text.has_room(LENGTH) {
+        put_all(text);
     }
-    if size - at < LENGTH {
-        return at;
-    }
-    put_all(out, at)
 }
 
 // Puts the head, the places in the air and on ground, the table's number and the notes.
-fn put_all(text: &mut [u8], at: usize) -> usize
-    ensures { PutIfRoom text.old at page_text text.new result }
+fn put_all(text: &mut Line)
+    ensures { PutsIfRoom page_text text.old text.new }
 {
-    let headed = texts::put(text, at, &HEAD);
-    let placed = put_air(text, headed);
-    let grounded = put_ground(text, placed);
-    let opened = put_part(text, grounded, parts::TABLE);
-    let numbered = texts::put_number(text, opened, table::table_number());
-    let ended = put_part(text, numbered, parts::END);
-    texts::put(text, ended, &TAIL)
+    text.put(HEAD);
+    put_air(text);
+    put_ground(text);
+    text.put(parts::TABLE);
+    text.put_number(table::table_number());
+    text.put(parts::END);
+    text.put(TAIL);
 }
 
 // Puts the headings of both handles, and all places in the air.
-fn put_air(text: &mut [u8], at: usize) -> usize
-    ensures { PutIfRoom text.old at air_part text.new result }
+fn put_air(text: &mut Line)
+    ensures { PutsIfRoom air_part text.old text.new }
 {
-    let up = put_headings(text, at, 0);
-    let mut next = put_headings(text, up, 16);
-    let mut k = 0;
-    while k < PLACES_IN_THE_AIR {
-        next = put_place(text, next, k, left(k), top(k));
-        k += 1;
+    put_headings(text, 0);
+    put_headings(text, 16);
+    for k in 0..PLACES_IN_THE_AIR {
+        put_place(text, k, left(k), top(k));
     }
-    next
 }
 
 // Puts the headings of the ground, and the places that differ there.
-fn put_ground(text: &mut [u8], at: usize) -> usize
-    ensures { PutIfRoom text.old at ground_part text.new result }
+fn put_ground(text: &mut Line)
+    ensures { PutsIfRoom ground_part text.old text.new }
 {
-    let mut next = headings::put_ground(text, at, FIRST_SHOWN);
-    let mut k = 0;
-    while k < PLACES_IN_THE_AIR {
-        next = put_if_other(text, next, k);
-        k += 1;
+    headings::put_ground(text, FIRST_SHOWN);
+    for k in 0..PLACES_IN_THE_AIR {
+        put_if_other(text, k);
     }
-    next
 }
 
 // Puts the place of the ground that is place k in the air, if it differs from that.
-fn put_if_other(text: &mut [u8], at: usize, k: u8) -> usize
+fn put_if_other(text: &mut Line, k: u8)
     requires { k < places_in_the_air }
-    ensures { PutIfRoom text.old at (ground_text k) text.new result }
+    ensures { PutsIfRoom (ground_text k) text.old text.new }
 {
     let here = PLACES_IN_THE_AIR + k;
     if differences::differs(here) {
-        return put_place(text, at, here, ground_left(k), GROUND_TOP);
+        put_place(text, here, ground_left(k), GROUND_TOP);
     }
-    at
 }
 
 // Puts place k, so far across the page and so far down.
-fn put_place(text: &mut [u8], at: usize, k: u8, across: u64, down: u64) -> usize
-    ensures { PutIfRoom text.old at (place_text k across down) text.new result }
+fn put_place(text: &mut Line, k: u8, across: u64, down: u64)
+    ensures { PutsIfRoom (place_text k across down) text.old text.new }
 {
-    let asked = Asked::numbered(16 * (k as usize));
-    let from = asked.place;
-    let fact = differences::decisive(asked);
-    let framed = put_frame(text, at, across, down, from.moving_have_open());
-    let numbered = put_numbers(text, framed, k);
-    let said = put_when(text, numbered, fact);
-    let told = put_next(text, said, from, differences::next_with(asked, fact));
-    let done = put_else(text, told, asked, fact);
-    put_part(text, done, parts::END_GROUP)
-}
-
-// One of two pieces.
-fn either(first: bool, one: usize, other: usize) -> usize
-    ensures { result ≡ cond first one other }
-{
-    if first {
-        return one;
-    }
-    other
+    let asked = stand_at(k);
+    let fact = decisive(asked);
+    put_frame(text, across, down, asked.place.moving_have_open());
+    put_numbers(text, k);
+    put_when(text, fact);
+    put_next(text, asked.place, next_with(asked, fact));
+    put_else(text, asked, fact);
+    text.put(parts::END_GROUP);
 }
 
 // Puts the frame of a place, grey where no reached state is there.
-fn put_frame(text: &mut [u8], at: usize, across: u64, down: u64, possible: bool) -> usize
-    ensures { PutIfRoom text.old at (frame_text across down possible) text.new result }
+fn put_frame(text: &mut Line, across: u64, down: u64, possible: bool)
+    ensures { PutsIfRoom (frame_text across down possible) text.old text.new }
 {
-    let class = either(possible, parts::PLACE, parts::NEVER);
-    let opened = put_part(text, at, parts::GROUP);
-    let classed = put_part(text, opened, class);
-    let moved = put_part(text, classed, parts::MOVED);
-    let sided = texts::put_number(text, moved, across);
-    let spaced = put_part(text, sided, parts::SPACE);
-    let lowered = texts::put_number(text, spaced, down);
-    put_part(text, lowered, parts::RECT)
+    text.put(parts::GROUP);
+    text.put(if possible { parts::PLACE } else { parts::NEVER });
+    text.put(parts::MOVED);
+    text.put_number(across);
+    text.put(parts::SPACE);
+    text.put_number(down);
+    text.put(parts::RECT);
 }
 
 // Puts the numbers of its entries.
-fn put_numbers(text: &mut [u8], at: usize, k: u8) -> usize
-    ensures { PutIfRoom text.old at (numbers_text k) text.new result }
+fn put_numbers(text: &mut Line, k: u8)
+    ensures { PutsIfRoom (numbers_text k) text.old text.new }
 {
     let n = 16 * (k as u64);
-    let opened = put_part(text, at, parts::NUMBERS);
-    let first = texts::put_number(text, opened, n);
-    let to = put_part(text, first, parts::TO);
-    let last = texts::put_number(text, to, n + 15);
-    put_part(text, last, parts::END)
+    text.put(parts::NUMBERS);
+    text.put_number(n);
+    text.put(parts::TO);
+    text.put_number(n + 15);
+    text.put(parts::END);
 }
 
 // The piece that says when something comes next.
-fn when_word(fact: Deciding) -> usize
-    ensures { entry parts result ≡ when_word fact }
+fn when_word(fact: Option<Fact>) -> &'static [u8]
+    ensures { result.now ≡ when_word fact }
 {
     match fact {
-        Deciding::Nothing => parts::ALWAYS,
-        Deciding::AllOpen => parts::IF_OPEN,
-        Deciding::AllClosed => parts::IF_CLOSED,
-        Deciding::AllExtended => parts::IF_EXTENDED,
-        Deciding::AllRetracted => parts::IF_RETRACTED,
+        None => parts::ALWAYS,
+        Some(Fact::AllOpen) => parts::IF_OPEN,
+        Some(Fact::AllClosed) => parts::IF_CLOSED,
+        Some(Fact::AllExtended) => parts::IF_EXTENDED,
+        Some(Fact::AllRetracted) => parts::IF_RETRACTED,
     }
 }
 
 // Puts when something comes next.
-fn put_when(text: &mut [u8], at: usize, fact: Deciding) -> usize
-    ensures { PutIfRoom text.old at (when_text fact) text.new result }
+fn put_when(text: &mut Line, fact: Option<Fact>)
+    ensures { PutsIfRoom (when_text fact) text.old text.new }
 {
-    let word = when_word(fact);
-    let opened = put_part(text, at, parts::WHEN);
-    let said = put_part(text, opened, word);
-    put_part(text, said, parts::END)
+    text.put(parts::WHEN);
+    text.put(when_word(fact));
+    text.put(parts::END);
 }
 
 // Puts the beginning of a line of doors or gears, by whether they stay.
-fn put_begin(text: &mut [u8], at: usize, stays: bool, name: usize) -> usize
-    ensures { PutIfRoom text.old at (part_begin stays (entry parts name)) text.new result }
+fn put_begin(text: &mut Line, stays: bool, name: &[u8])
+    ensures { PutsIfRoom (part_begin stays name.now) text.old text.new }
 {
-    let class = either(stays, parts::KEEPS, parts::MOVES);
-    let opened = put_part(text, at, parts::LINE);
-    let classed = put_part(text, opened, class);
-    put_part(text, classed, name)
+    text.put(parts::LINE);
+    text.put(if stays { parts::KEEPS } else { parts::MOVES });
+    text.put(name);
 }
 
 // Puts what comes next, or that the place stays.
-fn put_next(text: &mut [u8], at: usize, from: Place, to: Place) -> usize
-    ensures { PutIfRoom text.old at (next_text from to) text.new result }
+fn put_next(text: &mut Line, from: Place, to: Place)
+    ensures { PutsIfRoom (next_text from to) text.old text.new }
 {
-    let kept = differences::compared(from, to);
-    if kept.doors & kept.gears {
-        return put_part(text, at, parts::STAYS);
+    if from == to {
+        return text.put(parts::STAYS);
     }
-    let doors = to.doors;
-    let gears = to.gears;
-    let begun = put_begin(text, at, kept.doors, parts::DOORS);
-    let said = names::put_doors(text, begun, doors);
-    let ended = put_part(text, said, parts::END);
-    let begun = put_begin(text, ended, kept.gears, parts::GEARS);
-    let said = names::put_gears(text, begun, gears);
-    put_part(text, said, parts::END)
+    put_begin(text, from.doors == to.doors, parts::DOORS);
+    text.put(names::doors_word(to.doors));
+    text.put(parts::END);
+    put_begin(text, from.gears == to.gears, parts::GEARS);
+    text.put(names::gears_word(to.gears));
+    text.put(parts::END);
 }
 
 // Puts what comes next where the fact that makes a difference is not seen; where none does, nothing.
-fn put_else(text: &mut [u8], at: usize, asked: Asked, fact: Deciding) -> usize
-    ensures { PutIfRoom text.old at (cond (is_named fact) (else_text asked) []) text.new result }
+fn put_else(text: &mut Line, asked: Asked, fact: Option<Fact>)
+    ensures { PutsIfRoom (cond (is_named fact) (else_text asked) []) text.old text.new }
 {
-    if differences::is_named(fact) {
-        let begun = put_part(text, at, parts::ELSE);
-        let from = asked.place;
-        let next = differences::next_with(asked, Deciding::Nothing);
-        let told = put_next(text, begun, from, next);
-        return put_part(text, told, parts::END_GROUP);
+    if fact.is_some() {
+        text.put(parts::ELSE);
+        put_next(text, asked.place, next_with(asked, None));
+        text.put(parts::END_GROUP);
     }
-    at
 }

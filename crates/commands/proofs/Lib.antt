@@ -1,6 +1,4 @@
 pub mod NoBytes
 pub mod Putting
 pub mod Told
-pub mod Runs
 pub mod Shows
-pub mod OneOf

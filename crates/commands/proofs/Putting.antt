@@ -14,11 +14,7 @@ use Rattle.texts.proofs.Placing.{did_put, no_room}
 use Rattle.texts.proofs.Pieces as pieces
 use Rattle.commands.specs.Messages.{PutWithin, of_file, said_of}
 
--- Nothing is put.
-pub nothing : (line : List ℕ) (at : ℕ) → PutWithin line at [] line at
-nothing line at = ((λ h. h), refl, pieces.nothing line at)
-
--- What `texts::put` and its kin promise.
+-- What `Line::put` and its kin promise of a line and its place.
 pub put : {before : List ℕ} {at : ℕ} {piece after : List ℕ} {next : ℕ} → (next, after) ≡ put_of before at piece → PutWithin before at piece after next
 put {before} {at} {piece} {after} {next} e = by_test (leb (at + length piece) (length before)) refl where
   by_test : (t : Bool) → leb (at + length piece) (length before) ≡ t → PutWithin before at piece after next
@@ -33,10 +29,6 @@ put {before} {at} {piece} {after} {next} e = by_test (leb (at + length piece) (l
 pub and : {before : List ℕ} {at : ℕ} {one between : List ℕ} {next : ℕ} {two after : List ℕ} {end : ℕ}
     → PutWithin before at one between next → PutWithin between next two after end → PutWithin before at (one ++ two) after end
 and p q = ((λ h. omega (arith, p.0 h, p.1, q.0 (omega (arith, p.0 h, p.1)))), q.1 ∙ p.1, pieces.and p.2 q.2)
-
--- The same piece written otherwise.
-pub same : {before : List ℕ} {at : ℕ} {one other after : List ℕ} {next : ℕ} → one ≡ other → PutWithin before at one after next → PutWithin before at other after next
-same e p = (p.0, p.1, pieces.same e p.2)
 
 -- An empty path is left out, and no other.
 pub without_path : (path what : List ℕ) → length path ≡ 0 → said_of path what ≡ what

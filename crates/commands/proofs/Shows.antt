@@ -2,16 +2,16 @@
 -- Assumes nothing.
 use Prim.Native.Nat.{ℕ, ◌+◌, ◌≤◌}
 use native.Mathlib.Omega.{arith}
-use mathlib.Core.Bool.{Bool, true, false}
+use mathlib.Core.Bool.{true, false}
 use mathlib.Core.List.{List, ◌++◌, append-nil}
-use mathlib.Core.Path.{◌≡◌, sym, subst}
+use mathlib.Core.Path.{◌≡◌, sym}
 use borrow.Author.Tests.{le-leb}
-use lib.Dec.{T, leb}
+use lib.Dec.{leb}
 use lib.ListN.{length}
-use Rattle.texts.specs.Puts.{put_of, PutIfRoom}
-use Rattle.commands.specs.declared.saving.Loaded.{Loaded}
+use Rattle.texts.specs.Puts.{put_of}
+use Rattle.commands.specs.Loading.{Loaded}
 use Rattle.plain.specs.Plain.{plain_of}
-use Rattle.commands.specs.Words.{LoadedFrom, blank_text, shown_text, ShownRight}
+use Rattle.commands.specs.Words.{blank_text, shown_text}
 
 -- With a line more where every item is 0, and without.
 pub blank_shown : (loaded : Loaded) → loaded.blank ≡ true → plain_of loaded.state ++ blank_text true ≡ shown_text loaded
@@ -28,13 +28,3 @@ unfolding put_of
 all_put out text fits =
     let room : leb (0 + length text) (length out) ≡ true = le-leb (0 + length text) (length out) (omega arith) in
     rw room (omega arith)
-
--- An image that was taken, in words.
-pub shows : {out after : List ℕ} {n : ℕ} (loaded : Loaded) (well : Bool) → LoadedFrom loaded → loaded.taken ≡ true → 4096 ≡ length out
-    → PutIfRoom out 0 (shown_text loaded) after n
-    → ShownRight (record { well = well; put = n })
-shows {out} {after} {n} loaded well from e long p =
-    subst (λ (l : Loaded). T l.taken → (length (shown_text l) ≤ 4096 → n ≡ length (shown_text l)) → ShownRight (record { well = well; put = n }))
-    (sym from.1)
-    (λ t counted. record { image = from.0; taken = t; counted = counted })
-    (rw e tt) (λ fits. omega (arith, (p (omega (arith, long, fits))).place))

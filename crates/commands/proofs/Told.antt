@@ -13,7 +13,7 @@ use Rattle.common.specs.Decimal.{decimal}
 use Rattle.names.specs.Words.{entry, sensor_names, order_names}
 use Rattle.controller.specs.declared.State.{State}
 use Rattle.image.specs.declared.Fault.{Fault}
-use Rattle.image.specs.declared.Fault.TheVariants.{Nothing, Length, Item, Rule}
+use Rattle.image.specs.declared.Fault.TheVariants.{Length, Item, Rule}
 use Rattle.image.specs.Items.{item_count}
 use Rattle.image.specs.Rules.{rules}
 use Rattle.image.specs.Images.{size}
@@ -45,7 +45,6 @@ length_fits read = by_test (ltb size read) where
 
 -- What is wrong with the bytes that were read.
 pub fault_fits : (fault : Fault) (read : ℕ) → length (fault_words fault read) ≤ 128
-fault_fits Nothing read = omega arith
 fault_fits Length read = length_fits read
 fault_fits (Item k) read = omega (arith, item_length k, length-append (ascii "refusal 10: out of its range: ") (entry item_names k))
 fault_fits (Rule k) read = omega (arith, rule_length k, length-append (ascii "refusal 11: a rule is broken: ") (entry rule_words k))

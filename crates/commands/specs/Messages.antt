@@ -5,7 +5,7 @@ use Rattle.common.specs.Ascii.{ascii}
 use Rattle.common.specs.Decimal.{decimal}
 use Rattle.names.specs.Words.{entry}
 use Rattle.image.specs.declared.Fault.{Fault}
-use Rattle.image.specs.declared.Fault.TheVariants.{Nothing, Length, Item, Rule}
+use Rattle.image.specs.declared.Fault.TheVariants.{Length, Item, Rule}
 use Rattle.image.specs.Images.{size}
 use Rattle.texts.specs.Puts.{PutIfRoom}
 use Rattle.plain.specs.Parts.{item_names, rule_words}
@@ -46,7 +46,6 @@ length_words read =
 
 -- What is wrong with the bytes that were read: 10 names the length or the item, 11 the rule.
 abbrev pub fault_words : Fault → ℕ → List ℕ
-fault_words Nothing read = []
 fault_words Length read = length_words read
 fault_words (Item k) read = ascii "refusal 10: out of its range: " ++ entry item_names k
 fault_words (Rule k) read = ascii "refusal 11: a rule is broken: " ++ entry rule_words k

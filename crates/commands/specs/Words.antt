@@ -1,7 +1,7 @@
 -- What each word of the programs does with what the reads left: the whole run of its task, from a fresh start or from the controller of an
 -- image; and what is said on standard output beside it.
 -- Assumes nothing.
-use Rattle.std.specs.Prelude.{ℕ, ◌≤◌, Bool, cond, ◌||◌, List, [], ◌∷◌, ◌++◌, ◌≡◌, T, length, replicate}
+use Rattle.std.specs.Prelude.{ℕ, ◌≤◌, Bool, cond, ◌||◌, Option, List, [], ◌∷◌, ◌++◌, ◌≡◌, T, length, replicate, Some, IsSomeAnd, OnSome}
 use Rattle.common.specs.Ascii.{ascii, lf}
 use Rattle.common.specs.Decimal.{decimal}
 use Rattle.controller.specs.declared.State.{State}
@@ -10,14 +10,14 @@ use Rattle.reading.specs.Rows.{has_started}
 use Rattle.plain.specs.Plain.{plain_of}
 use Rattle.forms.specs.Forms.{old_size, new_size}
 use Rattle.converting.specs.Converting.{to_new_of, to_old_of}
-use Rattle.commands.specs.declared.saving.Loaded.{Loaded}
+use Rattle.commands.specs.declared.saving.Loaded as taken
 use Rattle.commands.specs.declared.conversions.Converted.{Converted}
 use Rattle.commands.specs.declared.conversions.Form.{Form}
 use Rattle.commands.specs.declared.conversions.Form.TheVariants.{New, Old}
-use Rattle.commands.specs.Loading.{loaded_of}
-use Rattle.running.specs.declared.Task.{Task}
-use Rattle.running.specs.declared.Task.TheVariants.{Image}
+use Rattle.commands.specs.Loading.{Loaded, loaded_says, loaded_of}
 use Rattle.running.specs.declared.Ran.{Ran}
+use Rattle.running.specs.Rules.{Rule}
+use Rattle.running.specs.Works.{image as image_left}
 use Rattle.running.specs.Loops.{RanFrom}
 use Rattle.commands.specs.declared.images.Saved.{Saved}
 use Rattle.commands.specs.declared.images.Shown.{Shown}
@@ -31,26 +31,26 @@ is_first_word word = same_text word (ascii "waves") || (same_text word (ascii "s
 -- ---- From a controller
 
 -- There are bytes that this is the loading of.
-abbrev pub LoadedFrom : Loaded → Type 0
-LoadedFrom loaded = (bytes : List ℕ) × (loaded ≡ loaded_of bytes)
+abbrev pub LoadedFrom : Option taken.Loaded → Type 0
+LoadedFrom answer = (bytes : List ℕ) × (loaded_says (length bytes) answer ≡ loaded_of bytes)
 
--- An image that was taken: where a run from an image went well, there was one, and the run is from the controller that it is of.
-pub record Onward (task : Task) (ran : Ran) : Type 0 where
+-- An image that was taken: where nothing failed in a run from an image, there was one, and the run is from the controller that it is of.
+pub record Onward {A : Type 0} (rule : Rule A) (ran : Ran A) : Type 0 where
   pub image : List ℕ
   pub taken : T (loaded_of image).taken
-  pub whole : RanFrom task (loaded_of image).state ran
+  pub whole : RanFrom rule (loaded_of image).state (Some ran)
 
 -- ---- Saving
 
--- The run of the trace from a controller; an image is saved only where it went well and row 0 was read.
+-- The run of the trace from a controller; an image is saved only where nothing failed and row 0 was read.
 pub record SavedFrom (state : State) (answer : Saved) : Type 0 where
-  pub whole : RanFrom Image state answer.ran
-  pub only_then : T answer.saved → T answer.ran.well × T (has_started answer.ran.work.run.reading.phase)
+  pub whole : RanFrom image_left state answer.ran
+  pub only_then : T answer.saved → IsSomeAnd answer.ran (λ ran. T (has_started ran.work.run.reading.phase))
 
 -- The same from an image, of which there was one where anything was run.
 pub record SavedOnward (answer : Saved) : Type 0 where
   pub image : List ℕ
-  pub taken : T answer.ran.well → T (loaded_of image).taken
+  pub taken : OnSome answer.ran (T (loaded_of image).taken)
   pub right : SavedFrom (loaded_of image).state answer
 
 -- What is said of an image that was saved: its path, and of which line it is.
@@ -81,7 +81,7 @@ no_image = replicate new_size 0
 -- there is read in the source, and tested.)
 pub record ConvertedFrom (form : Form) (answer : Converted) : Type 0 where
   pub image : List ℕ
-  pub loaded : answer.loaded ≡ loaded_of image
+  pub loaded : loaded_says (length image) answer.loaded ≡ loaded_of image
   pub only_then : T answer.saved → (converted_by form image no_image).0 ≡ 0
 
 -- What is said of it: its path, the form, and the path of the other.

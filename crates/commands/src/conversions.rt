@@ -1,27 +1,31 @@
 // An image in the other form (request K6): `handover new` and `handover old`.
 ghost use Rattle.std.specs.Prelude.{T, ◌≡◌};
-ghost use Rattle.texts.specs.Puts.{PutIfRoom};
+ghost use Rattle.refusals.specs.Answers.{code_of};
+ghost use Rattle.texts.specs.Lines.{PutsIfRoom};
 ghost use Rattle.commands.specs.Words.{form_size, form_name, converted_by, no_image, ConvertedFrom, converted_text};
 
+use crate::messages::Named;
+use crate::saving;
 use crate::saving::{HANDOVER, Loaded, ROOM};
-use crate::{messages, saving};
 use image::SIZE;
+use refusals::Refusal;
 use std::fs::Files;
 use std::io::Write;
+use texts::Line;
 use words::Streams;
 
-// The form that is asked for.
+// The form that is asked for. (Three functions ask which: a trait over two forms would be no plainer.)
 #[derive(Clone, Copy)]
 pub enum Form {
     New,
     Old,
 }
 
-// A conversion: whether the image stands at its path, and what was loaded.
+// A conversion: whether the image stands at its path, and what was loaded, if that was taken, which is told of in both cases.
 #[derive(Clone, Copy)]
 pub struct Converted {
     pub saved: bool,
-    pub loaded: Loaded,
+    pub loaded: Option<Loaded>,
 }
 
 // `handover new TO FROM` and `handover old TO FROM`: the image that stands at FROM, in the form that is asked for, becomes the file TO, which may
@@ -35,18 +39,19 @@ pub fn convert<F: Files, R, W: Write, E: Write>(
 ) -> Converted
     ensures { ConvertedFrom form result }
 {
+    let to = saving::handed(files, path);
+    let from = saving::handed(files, from);
     let mut bytes = [0u8; ROOM];
-    let loaded = saving::load_told(files, &mut streams.errors, &HANDOVER, from, &mut bytes);
-    if loaded.taken {
-        let n = loaded.read;
+    let loaded = from.load_told(&mut streams.errors, &mut bytes);
+    let Some(taken) = loaded else {
+        to.say(&mut streams.errors, b"nothing was saved");
         return Converted {
-            saved: keep(files, streams, path, from, &bytes[..n], form),
+            saved: false,
             loaded,
         };
-    }
-    messages::say(&mut streams.errors, &HANDOVER, path, b"nothing was saved");
+    };
     Converted {
-        saved: false,
+        saved: keep(streams, &to, &from, &bytes[..taken.read], form),
         loaded,
     }
 }
@@ -54,38 +59,33 @@ pub fn convert<F: Files, R, W: Write, E: Write>(
 // Puts an image that was taken, converted, at a path, and says on the output what it is; or says why not. (With room for either form, what
 // was taken is refused by 12 alone.)
 fn keep<F: Files, R, W: Write, E: Write>(
-    files: &F,
     streams: &mut Streams<R, W, E>,
-    path: &[u8],
-    from: &[u8],
+    to: &Named<F>,
+    from: &Named<F>,
     image: &[u8],
     form: Form,
 ) -> bool
     ensures { T result → (converted_by form image.now no_image).0 ≡ 0 }
 {
     let mut out = [0u8; SIZE];
-    let refusal = in_form(form, image, &mut out);
-    if refusal != 0 {
-        messages::say(
+    if in_form(form, image, &mut out).is_err() {
+        from.say(
             &mut streams.errors,
-            &HANDOVER,
-            from,
             b"refusal 12: a channel is under suspicion, which the old form cannot bear; an image saved a sample or two later can be converted",
         );
-        messages::say(&mut streams.errors, &HANDOVER, path, b"nothing was saved");
+        to.say(&mut streams.errors, b"nothing was saved");
         return false;
     }
-    let n = size_of(form);
-    if saving::replace(files, &mut streams.errors, &HANDOVER, path, &out[..n]) {
-        tell(streams, path, from, form);
-        return true;
+    if !to.replace(&mut streams.errors, &out[..size_of(form)]) {
+        return false;
     }
-    false
+    tell(streams, to, from.path, form);
+    true
 }
 
 // Converts into a lent buffer.
-fn in_form(form: Form, image: &[u8], out: &mut [u8]) -> u8
-    ensures { (result, out.new) ≡ converted_by form image.now out.old }
+fn in_form(form: Form, image: &[u8], out: &mut [u8]) -> Result<(), Refusal>
+    ensures { (code_of result, out.new) ≡ converted_by form image.now out.old }
 {
     match form {
         Form::New => converting::to_new(image, out),
@@ -104,40 +104,37 @@ fn size_of(form: Form) -> usize
 }
 
 // Says what stands at a path now.
-fn tell<R, W: Write, E: Write>(
+fn tell<F, R, W: Write, E: Write>(
     streams: &mut Streams<R, W, E>,
-    path: &[u8],
+    to: &Named<F>,
     from: &[u8],
     form: Form,
 ) {
     let mut out = [0u8; 8512];
-    let end = put_told(&mut out, path, from, form);
+    let mut text = Line::new(&mut out);
+    put_told(&mut text, to.path, from, form);
+    let end = text.at;
     if !words::put(streams, &HANDOVER, &out, end) {
-        messages::say(
-            &mut streams.errors,
-            &HANDOVER,
-            path,
-            b"it is saved all the same",
-        );
+        to.say(&mut streams.errors, b"it is saved all the same");
     }
 }
 
 // Puts what stands at a path now.
-fn put_told(out: &mut [u8], path: &[u8], from: &[u8], form: Form) -> usize
-    ensures { PutIfRoom out.old 0 (converted_text path.now from.now form) out.new result }
+fn put_told(out: &mut Line, path: &[u8], from: &[u8], form: Form)
+    ensures { PutsIfRoom (converted_text path.now from.now form) out.old out.new }
 {
-    let named = texts::put(out, 0, path);
-    let told = put_form(out, named, form);
-    let other = texts::put(out, told, from);
-    texts::put(out, other, b"\n")
+    out.put(path);
+    put_form(out, form);
+    out.put(from);
+    out.put(b"\n");
 }
 
 // Puts the name of a form, between the two paths.
-fn put_form(out: &mut [u8], at: usize, form: Form) -> usize
-    ensures { PutIfRoom out.old at (form_name form) out.new result }
+fn put_form(out: &mut Line, form: Form)
+    ensures { PutsIfRoom (form_name form) out.old out.new }
 {
     match form {
-        Form::New => texts::put(out, at, b": the new form of "),
-        Form::Old => texts::put(out, at, b": the old form of "),
+        Form::New => out.put(b": the new form of "),
+        Form::Old => out.put(b": the old form of "),
     }
 }

@@ -1,5 +1,5 @@
 // Files by their names, and why the system does not do what it is asked.
-ghost use Rattle.std.specs.Prelude.{◌+◌, ◌≤◌, ◌++◌, IfOk, length};
+ghost use Rattle.std.specs.Prelude.{◌≡◌, ◌+◌, ◌≤◌, ◌++◌, IfOk, length};
 ghost use Rattle.common.specs.Ascii.{ascii};
 ghost use Rattle.commands.specs.Messages.{PutWithin};
 
@@ -8,6 +8,7 @@ use std::fs::{Files, OpenFile, OpenOptions, Permissions};
 use std::io::{Error, ErrorKind, Read, Write};
 use std::os::unix::fs::{OpenOptionsExt, PermissionsExt};
 use std::{fs, io};
+use texts::Line;
 
 // So many names are tried for a new file.
 const NAMES: u32 = 238328;
@@ -49,8 +50,18 @@ pub(crate) fn read<R: Read>(from: &mut R, buffer: &mut [u8]) -> io::Result<usize
 pub(crate) fn put_beside(out: &mut [u8], path: &[u8]) -> usize
     ensures { PutWithin out.old 0 (path.now ++ ascii ".XXXXXX") out.new result }
 {
-    let named = texts::put(out, 0, path);
-    texts::put(out, named, b".XXXXXX")
+    let mut line = Line::new(out);
+    put_name(&mut line, path);
+    line.at
+}
+
+// The same into a line.
+fn put_name(line: &mut Line, path: &[u8])
+    ensures same { line.new.bytes.ghost_name ≡ line.old.bytes.ghost_name }
+    ensures put { PutWithin line.old.bytes.now line.old.at (path.now ++ ascii ".XXXXXX") line.new.bytes.now line.new.at }
+{
+    line.put(path);
+    line.put(b".XXXXXX");
 }
 
 // Creates a new file by a name that ends in six letters: the first ones that no file there has.
@@ -79,7 +90,8 @@ fn create_new<F: Files>(files: &F, name: &[u8]) -> io::Result<F::File> {
         .open(files, text_of(name)?)
 }
 
-// Puts a number, in six letters, at the end of a name.
+// Puts a number, in six letters, at the end of a name. (Each place has its power
+// beside it.)
 fn put_letters(name: &mut [u8], k: u32) {
     let n = name.len();
     if n < 6 {
@@ -117,10 +129,7 @@ pub(crate) fn rename<F: Files>(files: &F, from: &[u8], to: &[u8]) -> io::Result<
 
 // Syncs the directory that a path lies in, and answers whether that went well.
 pub(crate) fn sync_directory<F: Files>(files: &F, path: &[u8]) -> bool {
-    match open_directory(files, path) {
-        Ok(directory) => directory.sync_all().is_ok(),
-        Err(_) => false,
-    }
+    open_directory(files, path).is_ok_and(|directory| directory.sync_all().is_ok())
 }
 
 // Whether there is a directory that a path lies in. (One that cannot be read may still take a new file.)
@@ -144,22 +153,15 @@ fn open_directory<F: Files>(files: &F, path: &[u8]) -> io::Result<F::File> {
 fn behind_slash(path: &[u8]) -> usize
     ensures { result ≤ length path.now }
 {
-    let mut n = path.len();
-    while 0 < n {
-        if path[n - 1] == b'/' {
-            return n;
-        }
-        n -= 1;
+    match path.iter().rposition(|byte| *byte == b'/') {
+        Some(i) => i + 1,
+        None => 0,
     }
-    0
 }
 
 // A path as a text, which the system's functions take alone.
 fn text_of(path: &[u8]) -> io::Result<&str> {
-    match std::str::from_utf8(path) {
-        Ok(text) => Ok(text),
-        Err(_) => Err(Error::from(ErrorKind::InvalidData)),
-    }
+    std::str::from_utf8(path).map_err(|_| Error::from(ErrorKind::InvalidData))
 }
 
 // Why the system does not do what it is asked, by its error.

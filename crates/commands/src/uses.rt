@@ -10,7 +10,8 @@
 //   wall csv                 the sequence's 1,024 entries as CSV (requests K4, K7)
 //   wall page                a page to print (SVG, A3)
 // Bad use gets one line on standard error, and nothing is written.
-ghost use Rattle.std.specs.Prelude.{◌≡◌, T};
+ghost use Rattle.std.specs.Prelude.{false, T, ◌≡◌, map};
+ghost use Rattle.names.specs.Words.{entry};
 ghost use Rattle.trace.specs.Header.{same_text};
 ghost use Rattle.commands.specs.Words.{is_first_word};
 
@@ -21,126 +22,118 @@ use std::fs::Files;
 use std::io::{Read, Write};
 use words::Streams;
 
-// Does what the words ask for, and answers whether they are such a use. They are counted with the program's own name, as the system does; there
-// are at most four behind it.
+// Does what the words ask for, and answers whether they are such a use: they are those that stand behind the program's own name. No use has more
+// than four, so a caller may leave out those behind the fifth.
 pub fn by_words<F: Files, R: Read, W: Write, E: Write>(
     files: &F,
     streams: &mut Streams<R, W, E>,
-    count: usize,
-    first: &[u8],
-    second: &[u8],
-    third: &[u8],
-    fourth: &[u8],
+    words: &[&[u8]],
 ) -> bool
-    ensures { T result → T (is_first_word first.now) }
+    ensures { T result → T (is_first_word (entry (map (λ word. word.now) words.now) 0)) }
 {
-    if is(first, b"waves") {
-        return waves(files, streams, count, second);
+    match words {
+        [first, rest @ ..] if is(first, b"waves") => waves(files, streams, rest),
+        [first, rest @ ..] if is(first, b"sheet") => sheet(streams, rest),
+        [first, rest @ ..] if is(first, b"handover") => handover(files, streams, rest),
+        [first, rest @ ..] if is(first, b"wall") => wall(streams, rest),
+        _ => misused(
+            streams,
+            b"desk",
+            b"use: desk waves, desk sheet, desk handover or desk wall, each with its words",
+        ),
     }
-    if is(first, b"sheet") {
-        return sheet(streams, count);
-    }
-    if is(first, b"handover") {
-        return handover(files, streams, count, second, third, fourth);
-    }
-    if is(first, b"wall") {
-        return wall(streams, count, second);
-    }
-    words::say(
-        &mut streams.errors,
-        b"desk",
-        b"use: desk waves, desk sheet, desk handover or desk wall, each with its words",
-    );
-    false
 }
 
 // Whether a word is this one.
 fn is(word: &[u8], text: &[u8]) -> bool
     ensures { result ≡ same_text word.now text.now }
 {
-    check::same(word, text)
+    word == text
 }
 
 fn waves<F: Files, R: Read, W: Write, E: Write>(
     files: &F,
     streams: &mut Streams<R, W, E>,
-    count: usize,
-    image: &[u8],
+    words: &[&[u8]],
 ) -> bool {
-    if count == 2 {
-        traces::waves(streams);
-        return true;
+    match words {
+        [] => {
+            traces::waves(streams);
+        }
+        [image] => {
+            images::waves(files, streams, image);
+        }
+        _ => return misused(streams, b"waves", b"use: waves [IMAGE] < TRACE"),
     }
-    if count == 3 {
-        images::waves(files, streams, image);
-        return true;
-    }
-    words::say(&mut streams.errors, b"waves", b"use: waves [IMAGE] < TRACE");
-    false
+    true
 }
 
-fn sheet<R: Read, W: Write, E: Write>(streams: &mut Streams<R, W, E>, count: usize) -> bool {
-    if count == 2 {
-        traces::sheet(streams);
-        return true;
+fn sheet<R: Read, W: Write, E: Write>(streams: &mut Streams<R, W, E>, words: &[&[u8]]) -> bool {
+    if !words.is_empty() {
+        return misused(streams, b"sheet", b"use: sheet < DUMP");
     }
-    words::say(&mut streams.errors, b"sheet", b"use: sheet < DUMP");
-    false
+    traces::sheet(streams);
+    true
 }
 
 fn handover<F: Files, R: Read, W: Write, E: Write>(
     files: &F,
     streams: &mut Streams<R, W, E>,
-    count: usize,
-    word: &[u8],
-    path: &[u8],
-    other: &[u8],
+    words: &[&[u8]],
 ) -> bool {
-    if (count == 4) & is(word, b"save") {
-        images::save(files, streams, path);
-        return true;
+    match words {
+        [b"save", to] => {
+            images::save(files, streams, to);
+        }
+        [b"save", to, from] => {
+            images::save_onward(files, streams, to, from);
+        }
+        [b"new", to, from] => {
+            conversions::convert(files, streams, to, from, Form::New);
+        }
+        [b"old", to, from] => {
+            conversions::convert(files, streams, to, from, Form::Old);
+        }
+        [b"resume", image] => {
+            images::resume(files, streams, image);
+        }
+        [b"show", image] => {
+            images::show(files, streams, image);
+        }
+        _ => {
+            return misused(
+                streams,
+                b"handover",
+                b"use: save TO [FROM] < TRACE, resume IMAGE < TRACE, show IMAGE, new TO FROM, or old TO FROM",
+            );
+        }
     }
-    if (count == 5) & is(word, b"save") {
-        images::save_onward(files, streams, path, other);
-        return true;
-    }
-    if (count == 5) & is(word, b"new") {
-        conversions::convert(files, streams, path, other, Form::New);
-        return true;
-    }
-    if (count == 5) & is(word, b"old") {
-        conversions::convert(files, streams, path, other, Form::Old);
-        return true;
-    }
-    if (count == 4) & is(word, b"resume") {
-        images::resume(files, streams, path);
-        return true;
-    }
-    if (count == 4) & is(word, b"show") {
-        images::show(files, streams, path);
-        return true;
-    }
-    words::say(
-        &mut streams.errors,
-        b"handover",
-        b"use: save TO [FROM] < TRACE, resume IMAGE < TRACE, show IMAGE, new TO FROM, or old TO FROM",
-    );
-    false
+    true
 }
 
-fn wall<R, W: Write, E: Write>(streams: &mut Streams<R, W, E>, count: usize, word: &[u8]) -> bool {
-    if (count == 3) & is(word, b"csv") {
-        walls::csv(streams);
-        return true;
+fn wall<R, W: Write, E: Write>(streams: &mut Streams<R, W, E>, words: &[&[u8]]) -> bool {
+    match words {
+        [b"csv"] => {
+            walls::csv(streams);
+        }
+        [b"page"] => {
+            walls::page(streams);
+        }
+        _ => {
+            return misused(
+                streams,
+                b"wall",
+                b"use: wall csv > FILE.csv, or wall page > FILE.svg",
+            );
+        }
     }
-    if (count == 3) & is(word, b"page") {
-        walls::page(streams);
-        return true;
-    }
-    words::say(
-        &mut streams.errors,
-        b"wall",
-        b"use: wall csv > FILE.csv, or wall page > FILE.svg",
-    );
+    true
+}
+
+// Says what the uses of a word are.
+fn misused<R, W, E: Write>(streams: &mut Streams<R, W, E>, word: &[u8], uses: &[u8]) -> bool
+    ensures { result ≡ false }
+{
+    words::say(&mut streams.errors, word, uses);
     false
 }

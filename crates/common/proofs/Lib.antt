@@ -1,6 +1,9 @@
 pub mod Decimals
 pub mod Given
 pub mod Loops
+pub mod Searches
+pub mod Made
 pub mod Pairs
 pub mod Tests
 pub mod Each
+pub mod Bits

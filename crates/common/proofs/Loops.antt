@@ -1,42 +1,14 @@
--- Loops over a list, one element a turn: what a turn adds to `some`, to `all` and to `each_from`.
+-- Loops over a list, one element a turn: what a turn adds to `each_from`.
 -- Assumes nothing.
-use mathlib.Core.Bool.{Bool, false, ◌&&◌, ◌||◌, and_assoc, and-true, or_assoc, or-false}
 use mathlib.Core.List.{List, [], ◌∷◌}
 use mathlib.Core.Path.{◌≡◌, refl, sym, ap, ◌∙◌}
 use Prim.Native.Nat.{ℕ, zero, suc, ◌+◌, ◌<◌, ◌≤◌}
 use native.Mathlib.Nat.{add-zero, zero-add, add-suc, suc-add, le_of_suc-le-suc, not-suc-le-zero}
 use native.Mathlib.Numerals.{add-one}
-use lib.ListN.{length, get_or, set, drop, drop_of_length-le}
-use lib.Seq.{drop-cons}
-use Rattle.common.specs.Lists.{some, all, each_from}
+use lib.ListN.{length, get_or, set}
+use Rattle.common.specs.Lists.{each_from}
 
 module _ {A : Type 0} where
-  -- ---- A search that collects what it has seen
-
-  -- Before the first turn nothing has been seen.
-  pub some_start : (p : A → Bool) (xs : List A) → some p xs ≡ (false || some p (drop 0 xs))
-  some_start p xs = refl
-
-  -- A turn looks at element i.
-  pub some_turn : (p : A → Bool) (xs : List A) (i : ℕ) (d : A) (seen : Bool) → i < length xs → (seen || some p (drop i xs)) ≡ ((seen || p (get_or xs i d)) || some p (drop (i + 1) xs))
-  unfolding some
-  some_turn p xs i d seen h = rw (add-one, drop-cons xs i d h, or_assoc seen (p (get_or xs i d)) (some p (drop (suc i) xs)))
-
-  -- After the last turn what has been seen is the answer.
-  pub some_end : (p : A → Bool) (xs : List A) (i : ℕ) (seen : Bool) → length xs ≤ i → (seen || some p (drop i xs)) ≡ seen
-  unfolding some
-  some_end p xs i seen h = rw (drop_of_length-le xs h, or-false seen)
-
-  -- ---- The same where every element must pass
-
-  pub all_turn : (p : A → Bool) (xs : List A) (i : ℕ) (d : A) (passed : Bool) → i < length xs → (passed && all p (drop i xs)) ≡ ((passed && p (get_or xs i d)) && all p (drop (i + 1) xs))
-  unfolding all
-  all_turn p xs i d passed h = rw (add-one, drop-cons xs i d h, and_assoc passed (p (get_or xs i d)) (all p (drop (suc i) xs)))
-
-  pub all_end : (p : A → Bool) (xs : List A) (i : ℕ) (passed : Bool) → length xs ≤ i → (passed && all p (drop i xs)) ≡ passed
-  unfolding all
-  all_end p xs i passed h = rw (drop_of_length-le xs h, and-true passed)
-
   -- ---- A function at each element, in place
 
   -- The function at the first i elements, where the first has place k.

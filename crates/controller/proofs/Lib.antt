@@ -1,4 +1,5 @@
 pub mod Computing
 pub mod Once
 pub mod Refusals
+pub mod Said
 pub mod LampLaws

@@ -2,6 +2,7 @@
 -- Assumes nothing.
 use Rattle.std.proofs.Common.{sym, ◌∙◌}
 use Rattle.common.specs.OneAnswer.{OneAnswer}
+use Rattle.controller.proofs.Said.{said_once}
 use Rattle.controller.proofs.State.fresh.Kinds as state_fresh_kinds
 use Rattle.controller.proofs.State.fresh.Reads as state_fresh_reads
 use Rattle.controller.proofs.State.step.Kinds as state_step_kinds
@@ -23,7 +24,7 @@ pub state_fresh_once : OneAnswer 0 state_fresh_kinds.ps state_fresh_kinds.r stat
 state_fresh_once κs a x y s t p q = p ∙ sym q
 
 pub state_step_once : OneAnswer 1 state_step_kinds.ps state_step_kinds.r state_step_reads.Post
-state_step_once κs a x y s t p q = p ∙ sym q
+state_step_once κs a x y s t p q = said_once _ x y (p ∙ sym q)
 
 pub state_lights_once : OneAnswer 0 state_lights_kinds.ps state_lights_kinds.r state_lights_reads.Post
 state_lights_once κs a x y s t p q = p ∙ sym q

@@ -1,6 +1,7 @@
 pub mod Votes
 pub mod Start
 pub mod Stages
+pub mod Answers
 pub mod Steps
 pub mod Lamps
 pub mod Shows

@@ -6,7 +6,7 @@ use Rattle.common.specs.Bits.{bit}
 use Rattle.sequence.specs.declared.Doors.{Doors}
 use Rattle.sequence.specs.declared.Gears.{Gears}
 use Rattle.controller.specs.declared.State.{State}
-use Rattle.controller.specs.declared.Answer.{Answer}
+use Rattle.controller.specs.Answers.{Answer}
 use Rattle.controller.specs.declared.Shown.{Shown}
 use Rattle.controller.specs.Steps.{step_of}
 use Rattle.controller.specs.Lamps.{shown_of}

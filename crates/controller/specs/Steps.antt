@@ -4,7 +4,7 @@ use Rattle.std.specs.Prelude.{ℕ, Bool, cond, not, ltb, List, [], ◌∷◌, le
 use Rattle.common.specs.Lists.{some}
 use Rattle.common.specs.Lowest.{lowest}
 use Rattle.controller.specs.declared.State.{State}
-use Rattle.controller.specs.declared.Answer.{Answer}
+use Rattle.controller.specs.Answers.{Answer}
 use Rattle.controller.specs.Stages.{elapsed_of, accepted}
 
 -- Elapsed must be 1 to 100: the limit.

@@ -9,60 +9,55 @@ use voter::Voter;
 
 impl State {
     // The three lights.
+    #[tactic(auto, unfolding(crate::specs::Lamps::lights_of))]
     pub fn lights(self) -> Lights
         ensures { result ≡ lights_of self }
     {
-        let voters = self.voters;
         Lights {
-            green: green(voters),
-            orange: orange(voters),
+            green: green(self.voters),
+            orange: orange(self.voters),
             red: self.core.anomaly(),
         }
     }
 
     // What an output row shows.
+    #[tactic(auto, unfolding(crate::specs::Lamps::shown_of))]
     pub fn shown(self) -> Shown
         ensures { result ≡ shown_of self }
     {
         let orders = self.core.orders;
-        let place = self.core.place;
-        let doors = place.doors;
-        let gears = place.gears;
         Shown {
             general: orders.general.on,
             closes: orders.closes.on,
             opens: orders.opens.on,
             retracts: orders.retracts.on,
             extends: orders.extends.on,
-            doors,
-            gears,
+            doors: self.core.place.doors,
+            gears: self.core.place.gears,
             lights: self.lights(),
         }
     }
 
-    // The eighteen voted values, in the sample's order.
+    // The eighteen voted values, in the sample's order. (By `map` of the array it takes 388 instructions and no longer 36.)
     pub fn values(self) -> [bool; 18]
         ensures { result ≡ values_of self }
     {
-        let voters = self.voters;
         let mut values = [false; 18];
-        let mut i = 0;
-        while i < 18 {
-            values[i] = votes::value_at(voters, i);
-            i += 1;
+        for (i, voter) in self.voters.iter().enumerate() {
+            values[i] = voter.value();
         }
         values
     }
 
     // Whether some sensor is invalid.
+    #[tactic(auto, unfolding(crate::specs::Votes::some_invalid))]
     pub fn invalid(self) -> bool
         ensures { result ≡ some_invalid self.voters }
     {
-        let voters = self.voters;
-        votes::some_invalid(voters)
+        votes::some_invalid(self.voters)
     }
 
-    // The cause of the anomaly, 0 for none.
+    // The cause of the anomaly, 0 for none. (A number, as `Core` bears it.)
     pub fn cause(self) -> u8
         ensures { result ≡ self.core.cause }
     {
@@ -71,26 +66,29 @@ impl State {
 }
 
 // Green: all three gears voted extended.
+#[tactic(auto, unfolding(crate::specs::Lamps::green_of))]
 fn green(voters: [Voter; 18]) -> bool
     ensures { result ≡ green_of voters }
 {
-    votes::all_from(voters, votes::GEAR_EXTENDED)
+    votes::three_from(voters, votes::GEAR_EXTENDED).all
 }
 
 // Whether a gear (0 front, 1 left, 2 right) is voted neither extended nor retracted.
+#[tactic(auto, unfolding(crate::specs::Lamps::neither_at))]
 fn neither(voters: [Voter; 18], gear: usize) -> bool
     requires { gear < 3 }
     ensures { result ≡ neither_at gear voters }
 {
     let extended = votes::value_at(voters, votes::GEAR_EXTENDED + gear);
     let retracted = votes::value_at(voters, votes::GEAR_RETRACTED + gear);
-    !extended & !retracted
+    !extended && !retracted
 }
 
 // Orange: some door is not voted closed, or some gear is voted neither extended nor retracted.
+#[tactic(auto, unfolding(crate::specs::Lamps::orange_of))]
 fn orange(voters: [Voter; 18]) -> bool
     ensures { result ≡ orange_of voters }
 {
-    let closed = votes::all_from(voters, votes::DOOR_CLOSED);
-    !closed | neither(voters, 0) | neither(voters, 1) | neither(voters, 2)
+    let closed = votes::three_from(voters, votes::DOOR_CLOSED).all;
+    !closed || neither(voters, 0) || neither(voters, 1) || neither(voters, 2)
 }

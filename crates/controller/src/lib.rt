@@ -4,6 +4,7 @@
 #![tactic(auto)]
 
 ghost use Rattle.std.specs.Prelude.{◌≡◌};
+ghost use Rattle.controller.specs.Answers.{answer_says};
 ghost use Rattle.controller.specs.Start.{fresh_orders, fresh_voters, fresh_of, started_at};
 ghost use Rattle.controller.specs.Steps.{some_over_one, step_of};
 
@@ -12,6 +13,7 @@ mod stages;
 mod votes;
 
 use orders::{OLDEST, Order, Orders};
+use refusals::Refusal;
 use sequence::{Doors, Gears, Place};
 use voter::Voter;
 
@@ -19,7 +21,8 @@ use voter::Voter;
 const LIMIT: u32 = 100;
 
 // What a step keeps beside the stamp and the sensors: the orders, the handle's age, doors and gears, the cause (0 for none).
-#[derive(Clone, Copy)]
+// The cause is a number and no enum: any byte may stand there, an image bears it, and `has_cause` (laws/specs/Laws.antt) speaks of the number.
+#[derive(Clone, Copy, PartialEq, Eq)]
 pub struct Core {
     pub orders: Orders,
     pub since: u32,
@@ -28,22 +31,15 @@ pub struct Core {
 }
 
 // The controller's state: the last accepted stamp, the eighteen sensors in the sample's order, and the core.
-#[derive(Clone, Copy)]
+#[derive(Clone, Copy, PartialEq, Eq)]
 pub struct State {
     pub stamp: u32,
     pub voters: [Voter; 18],
     pub core: Core,
 }
 
-// What a step answers: 0 or its refusal's number, and the state after it.
-#[derive(Clone, Copy)]
-pub struct Answer {
-    pub refusal: u8,
-    pub state: State,
-}
-
 // The three lights.
-#[derive(Clone, Copy)]
+#[derive(Clone, Copy, PartialEq, Eq)]
 pub struct Lights {
     pub green: bool,
     pub orange: bool,
@@ -51,7 +47,7 @@ pub struct Lights {
 }
 
 // What an output row shows of a state, in its order.
-#[derive(Clone, Copy)]
+#[derive(Clone, Copy, PartialEq, Eq)]
 pub struct Shown {
     pub general: bool,
     pub closes: bool,
@@ -65,76 +61,57 @@ pub struct Shown {
 
 impl State {
     // A fresh start at a stamp.
+    #[tactic(auto, unfolding(crate::specs::Start::fresh_of, crate::specs::Start::fresh_core))]
     pub fn fresh(stamp: u32) -> Self
         ensures { result ≡ fresh_of stamp }
     {
-        let place = Place {
-            doors: Doors::Closed,
-            gears: Gears::Extended,
-        };
-        let core = Core {
-            orders: fresh_orders(),
-            since: OLDEST,
-            place,
-            cause: 0,
-        };
         State {
             stamp,
             voters: fresh_voters(),
-            core,
+            core: Core {
+                orders: fresh_orders(),
+                since: OLDEST,
+                place: Place {
+                    doors: Doors::Closed,
+                    gears: Gears::Extended,
+                },
+                cause: 0,
+            },
         }
     }
 
     // The same controller at a new start stamp.
+    #[tactic(auto, unfolding(crate::specs::Start::started_at))]
     pub fn started_at(self, stamp: u32) -> Self
         ensures { result ≡ started_at stamp self }
     {
-        let voters = self.voters;
-        let core = self.core;
-        State {
-            stamp,
-            voters,
-            core,
-        }
+        State { stamp, ..self }
     }
 
-    // One step: refused by its number with the state as it was, or accepted.
-    pub fn step(self, stamp: u32, sample: &[u8]) -> Answer
-        ensures { result ≡ step_of self stamp sample.now }
+    // One step: the state after it, or the first refusal that applies.
+    #[tactic(auto, unfolding(crate::specs::Steps::step_at, crate::specs::Steps::refusal_at))]
+    pub fn step(self, stamp: u32, sample: &[u8]) -> Result<State, Refusal>
+        ensures { answer_says self result ≡ step_of self stamp sample.now }
     {
-        if sample.len() != 54 {
-            return Answer {
-                refusal: 1,
-                state: self,
-            };
-        }
+        let Some(sample) = sample.as_array() else {
+            return Err(Refusal::SampleLength);
+        };
         if some_over_one(sample) {
-            return Answer {
-                refusal: 2,
-                state: self,
-            };
+            return Err(Refusal::ByteOverOne);
         }
         let elapsed = stages::elapsed(self.stamp, stamp);
         if elapsed == 0 {
-            return Answer {
-                refusal: 3,
-                state: self,
-            };
+            return Err(Refusal::NoneElapsed);
         }
         if LIMIT < elapsed {
-            return Answer {
-                refusal: 4,
-                state: self,
-            };
+            return Err(Refusal::LimitElapsed);
         }
-        Answer {
-            refusal: 0,
-            state: self.accepted(stamp, sample),
-        }
+        Ok(self.accepted(stamp, sample))
     }
 }
 
 // Five orders off, with every age 60,000.
+#[tactic(auto, unfolding(crate::specs::Start::fresh_orders, crate::specs::Start::off_long))]
 fn fresh_orders() -> Orders
     ensures { result ≡ fresh_orders }
 {
@@ -152,15 +129,15 @@ fn fresh_orders() -> Orders
 }
 
 // All channels valid; handle held down, gear_extended and door_closed held 1, the others held 0.
+#[tactic(auto, unfolding(crate::specs::Start::fresh_voters))]
 fn fresh_voters() -> [Voter; 18]
     ensures { result ≡ fresh_voters }
 {
-    let down = Voter::fresh(true);
     let one = Voter::fresh(true);
     let zero = Voter::fresh(false);
     [
         // handle, analogical_switch
-        down, zero,
+        one, zero,
         // gear_extended
         one, one, one,
         // gear_retracted
@@ -177,14 +154,8 @@ fn fresh_voters() -> [Voter; 18]
 }
 
 // Whether a byte is over 1.
-fn some_over_one(sample: &[u8]) -> bool
+fn some_over_one(sample: &[u8; 54]) -> bool
     ensures { result ≡ some_over_one sample.now }
 {
-    let mut seen = false;
-    let mut i = 0;
-    while i < sample.len() {
-        seen = seen | (1 < sample[i]);
-        i += 1;
-    }
-    seen
+    sample.iter().any(|byte| 1 < *byte)
 }

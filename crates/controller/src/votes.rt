@@ -1,12 +1,13 @@
 // What a sample and its votes say (specs/Votes.antt; document 01, "The sample").
-ghost use Rattle.std.specs.Prelude.{◌≡◌, ◌+◌, ◌<◌, length};
+ghost use Rattle.std.specs.Prelude.{◌≡◌, ◌+◌, ◌<◌};
 ghost use Rattle.controller.specs.Votes.{all_voted, sensor, three_from, some_invalid, sight_of, seen_of, aimed, on_ground};
 
 use monitors::{Sight, Three};
 use sequence::{Aim, Seen};
 use voter::Voter;
 
-// The sensors' numbers, counted from 0 in the sample's order; of three, the front one's.
+// The sensors' numbers, counted from 0 in the sample's order; of three, the front one's. (Places in the eighteen, to which 1 and 2 are added: an
+// enum would be cast at each.)
 pub(crate) const HANDLE: usize = 0;
 
 const ANALOGICAL_SWITCH: usize = 1;
@@ -23,33 +24,31 @@ const DOOR_OPEN: usize = 14;
 
 const CIRCUIT_PRESSURIZED: usize = 17;
 
-// Every sensor votes over its three channels, which stand side by side in the sample.
-pub(crate) fn all_voted(voters: [Voter; 18], sample: &[u8]) -> [Voter; 18]
-    requires { length sample.now ≡ 54 }
+// Every sensor votes over its three channels, which stand side by side in the sample. (By its number: the invariant speaks of the whole array in each
+// turn, and `iter_mut` would lend it out for the loop.)
+pub(crate) fn all_voted(voters: [Voter; 18], sample: &[u8; 54]) -> [Voter; 18]
     ensures { result ≡ all_voted sample.now voters }
 {
     let mut after = voters;
-    let mut i = 0;
-    while i < 18 {
-        let v = after[i];
+    for i in 0..18 {
         let at = 3 * i;
-        after[i] = v.vote(sample[at] == 1, sample[at + 1] == 1, sample[at + 2] == 1);
-        i += 1;
+        after[i] = after[i].vote(sample[at] == 1, sample[at + 1] == 1, sample[at + 2] == 1);
     }
     after
 }
 
 // The voted value of a sensor.
+#[tactic(auto, unfolding(crate::specs::Votes::sensor))]
 pub(crate) fn value_at(voters: [Voter; 18], i: usize) -> bool
     requires { i < 18 }
     ensures { result ≡ sensor i voters }
 {
-    let v = voters[i];
-    v.value()
+    voters[i].value()
 }
 
 // What three sensors side by side say.
-fn three_from(voters: [Voter; 18], i: usize) -> Three
+#[tactic(auto, unfolding(crate::specs::Votes::three_from))]
+pub(crate) fn three_from(voters: [Voter; 18], i: usize) -> Three
     requires { i + 2 < 18 }
     ensures { result ≡ three_from i voters }
 {
@@ -57,8 +56,8 @@ fn three_from(voters: [Voter; 18], i: usize) -> Three
     let left = value_at(voters, i + 1);
     let right = value_at(voters, i + 2);
     Three {
-        any: front | left | right,
-        all: front & left & right,
+        any: front || left || right,
+        all: front && left && right,
     }
 }
 
@@ -66,17 +65,11 @@ fn three_from(voters: [Voter; 18], i: usize) -> Three
 pub(crate) fn some_invalid(voters: [Voter; 18]) -> bool
     ensures { result ≡ some_invalid voters }
 {
-    let mut seen = false;
-    let mut i = 0;
-    while i < 18 {
-        let v = voters[i];
-        seen = seen | v.invalid();
-        i += 1;
-    }
-    seen
+    voters.iter().any(|voter| voter.invalid())
 }
 
 // All that the monitors look at.
+#[tactic(auto, unfolding(crate::specs::Votes::sight_of))]
 pub(crate) fn sight(voters: [Voter; 18]) -> Sight
     ensures { result ≡ sight_of voters }
 {
@@ -91,41 +84,31 @@ pub(crate) fn sight(voters: [Voter; 18]) -> Sight
     }
 }
 
-// Whether three sensors side by side all say 1.
-pub(crate) fn all_from(voters: [Voter; 18], i: usize) -> bool
-    requires { i + 2 < 18 }
-    ensures { result ≡ (three_from i voters).all }
-{
-    value_at(voters, i) & value_at(voters, i + 1) & value_at(voters, i + 2)
-}
-
 // What the sequence looks at.
+#[tactic(auto, unfolding(crate::specs::Votes::seen_of, crate::specs::Votes::sight_of))]
 pub(crate) fn seen(voters: [Voter; 18]) -> Seen
     ensures { result ≡ seen_of (sight_of voters) }
 {
     Seen {
-        opened: all_from(voters, DOOR_OPEN),
-        closed: all_from(voters, DOOR_CLOSED),
-        extended: all_from(voters, GEAR_EXTENDED),
-        retracted: all_from(voters, GEAR_RETRACTED),
+        opened: three_from(voters, DOOR_OPEN).all,
+        closed: three_from(voters, DOOR_CLOSED).all,
+        extended: three_from(voters, GEAR_EXTENDED).all,
+        retracted: three_from(voters, GEAR_RETRACTED).all,
     }
 }
 
 // What the voted handle aims at.
+#[tactic(auto, unfolding(crate::specs::Votes::aimed))]
 pub(crate) fn aim(voters: [Voter; 18]) -> Aim
     ensures { result ≡ aimed voters }
 {
-    if value_at(voters, HANDLE) {
-        return Aim::ToExtended;
-    }
-    Aim::ToRetracted
+    Aim::of_handle(value_at(voters, HANDLE))
 }
 
 // Whether any absorber is voted on ground.
+#[tactic(auto, unfolding(crate::specs::Votes::on_ground))]
 pub(crate) fn on_ground(voters: [Voter; 18]) -> bool
     ensures { result ≡ on_ground voters }
 {
-    value_at(voters, GEAR_SHOCK_ABSORBER)
-        | value_at(voters, GEAR_SHOCK_ABSORBER + 1)
-        | value_at(voters, GEAR_SHOCK_ABSORBER + 2)
+    three_from(voters, GEAR_SHOCK_ABSORBER).any
 }

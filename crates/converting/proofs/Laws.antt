@@ -74,16 +74,16 @@ module _ (image : List ℕ) (taken : Taken image) (none : AllCountsAre0 image) w
 
   old_form_loads : (before : State) (stamp : ℕ) → load_of before (in_old_form image) stamp ≡ load_of before image stamp
   old_form_loads before stamp =
-      sym (same_loading (in_old_form image) old_has_form before stamp)
+      sym (same_loading (in_old_form image) before stamp)
       ∙ ap (λ (bytes : List ℕ). load_of before bytes stamp) same_in_new_form
-      ∙ same_loading image taken.in_range.long before stamp
+      ∙ same_loading image before stamp
 
   old_form_taken : Taken (in_old_form image)
   old_form_taken =
       taken_holds (in_old_form image)
-      (sym (same_refusal (in_old_form image) old_has_form)
+      (sym (same_refusal (in_old_form image))
       ∙ ap refusal_of same_in_new_form
-      ∙ same_refusal image taken.in_range.long
+      ∙ same_refusal image
       ∙ holds_taken image taken)
 
   -- ---- To the old form
@@ -119,7 +119,7 @@ module _ (image : List ℕ) (taken : Taken image) where
   new_has_form = inr (new_form_length image taken.in_range.long)
 
   new_form_taken : Taken (in_new_form image)
-  new_form_taken = taken_holds (in_new_form image) (same_refusal image taken.in_range.long ∙ holds_taken image taken)
+  new_form_taken = taken_holds (in_new_form image) (same_refusal image ∙ holds_taken image taken)
 
   module _ (buffer : List ℕ) (room : new_size ≤ length buffer) where
     pub to_new_stands : new_from image buffer ≡ in_new_form image
@@ -132,7 +132,7 @@ module _ (image : List ℕ) (taken : Taken image) where
 
     pub to_new_loads_the_same : (before : State) (stamp : ℕ) → load_of before (new_from image buffer) stamp ≡ load_of before image stamp
     to_new_loads_the_same before stamp =
-        ap (λ (bytes : List ℕ). load_of before bytes stamp) to_new_stands ∙ same_loading image taken.in_range.long before stamp
+        ap (λ (bytes : List ℕ). load_of before bytes stamp) to_new_stands ∙ same_loading image before stamp
 
     pub to_new_keeps_the_stamp : item_at (items_in (new_from image buffer)) 0 ≡ item_at (items_in image) 0
     to_new_keeps_the_stamp =
@@ -153,7 +153,7 @@ pub old_new_old : (image : List ℕ) → Taken image → length image ≡ old_si
 old_new_old image taken old there room back enough =
     let stands = to_new_stands image taken there room in
     let taken_there = to_new_is_taken image taken there room in
-    let same : loaded_at 0 (new_from image there) ≡ loaded_at 0 image = ap (loaded_at 0) stands ∙ same_controller image taken.in_range.long 0 in
+    let same : loaded_at 0 (new_from image there) ≡ loaded_at 0 image = ap (loaded_at 0) stands ∙ same_controller image 0 in
     let none : AllCountsAre0 (new_from image there) = subst⁻¹ (λ (s : State). Each (λ (v : Voter). v.count ≡ 0) s.voters) same (old_all_0 image old) in
     to_old_converts (new_from image there) back enough taken_there none
     ∙ ap (λ (bytes : List ℕ). (0, bytes ++ drop old_size back)) (ap in_old_form stands ∙ old_to_new_to_old image old)

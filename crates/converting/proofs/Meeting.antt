@@ -13,7 +13,7 @@ use Rattle.forms.specs.Forms.{old_size, new_size, in_new_form, in_old_form}
 use Rattle.forms.proofs.ThereAndBack.{new_form_length, old_form_length}
 use Rattle.voter.specs.Counts.{count_runs}
 use Rattle.controller.specs.declared.State.{State}
-use Rattle.controller.specs.declared.Answer.{Answer}
+use Rattle.controller.specs.Answers.{Answer}
 use Rattle.image.specs.Images.{refusal_of, load_of}
 use Rattle.image.proofs.Exact.{taken_holds, taken_is_loaded}
 use Rattle.converting.specs.Converting.{to_new_of, some_count_runs, back_refusal_of, to_old_of}

@@ -1,7 +1,7 @@
 -- Laws of one cylinder, for the layers above: they cite these names and open neither the rule nor the floats.
 -- Assumes nothing.
 use Rattle.std.proofs.Common.{◌≡◌, ℕ, ◌+◌, ◌-◌, ◌*◌, ◌≤◌, min, ◌⊎◌, ◌↔◌, sym, refl, ◌∙◌, subst, inl, inr, zero-le, arith}
-use mathlib.Core.Option.{Option, none, some}
+use Rattle.std.specs.Prelude.{Option, None, Some}
 use Rattle.common.specs.Answers.{Answer, gives, refuses}
 use Rattle.cylinder.specs.Fractions.{stroke, fraction}
 use Rattle.cylinder.specs.Moves.{fastest, position_parts, rate_parts, shown_parts, cylinder_at, moved_out, moved_in, stuck_at, moved_by, moved_from, moved, BadCylinder, BadDrive, InParts}
@@ -52,11 +52,11 @@ in_parts k n on_stroke no_faster =
       itself = refl;
     }
 
-never : {n : ℕ} {o : Option ℕ} → o ≡ some n → o ≡ none → ⊥
+never : {n : ℕ} {o : Option ℕ} → o ≡ Some n → o ≡ None → ⊥
 never p q = none_is_not_some (sym q ∙ p)
 
 refusal_is_none : {A B : Type 0} {x : A} {k : ℕ} → gives x ≡ refuses k → B
-refusal_is_none e = let z : ◌≡◌ {A = ℕ} 0 1 = cc in absurd (omega arith)
+refusal_is_none e = absurd (cc)
 
 -- What a move comes to: 13 with its reason, or a cylinder in parts.
 data Comes (bad : Type 0) : Answer Cylinder → Type 0 where
@@ -76,16 +76,16 @@ given_in_parts (refused b) c e = refusal_is_none (sym e)
 given_in_parts (given c' good parts) c e = let same : c' ≡ c = cc in subst InParts same parts
 
 module _ (c : Cylinder) (elapsed : ℕ) where
-  no_reason : {k n : ℕ} → position_parts c.position ≡ some k → shown_parts c.rate ≡ some n → BadCylinder c → ⊥
+  no_reason : {k n : ℕ} → position_parts c.position ≡ Some k → shown_parts c.rate ≡ Some n → BadCylinder c → ⊥
   no_reason p q (inl e) = never p e
   no_reason p q (inr e) = never q e
 
   -- A rate or a position that it is told, taken or not.
-  by_number : (good : BadCylinder c → ⊥) (o told : Option ℕ) (answer : Option ℕ → Answer Cylinder) → told ≡ o → answer none ≡ refuses 13
-      → ((n : ℕ) → told ≡ some n → (c' : Cylinder) × (answer (some n) ≡ gives c') × InParts c')
-      → Comes (BadCylinder c ⊎ (told ≡ none)) (answer o)
-  by_number good none told answer e refuses_none gives_some = rw refuses_none (refused (inr e))
-  by_number good (some n) told answer e refuses_none gives_some =
+  by_number : (good : BadCylinder c → ⊥) (o told : Option ℕ) (answer : Option ℕ → Answer Cylinder) → told ≡ o → answer None ≡ refuses 13
+      → ((n : ℕ) → told ≡ Some n → (c' : Cylinder) × (answer (Some n) ≡ gives c') × InParts c')
+      → Comes (BadCylinder c ⊎ (told ≡ None)) (answer o)
+  by_number good None told answer e refuses_none gives_some = rw refuses_none (refused (inr e))
+  by_number good (Some n) told answer e refuses_none gives_some =
       let g = gives_some n e in
       rw g.1 (given g.0 (λ bad. elim bad [ inl b ↦ good b | inr b ↦ never e b ]) g.2)
 
@@ -104,9 +104,9 @@ module _ (c : Cylinder) (elapsed : ℕ) where
 
   from_parts : (drive : Drive) (o s : Option ℕ) → position_parts c.position ≡ o → shown_parts c.rate ≡ s
       → Comes (BadCylinder c ⊎ BadDrive drive) (moved_from o s drive elapsed)
-  from_parts drive none s p q = refused (inl (inl p))
-  from_parts drive (some k) none p q = refused (inl (inr q))
-  from_parts drive (some k) (some n) p q = by_drive drive k (no_reason p q) (taken_at_most 0 stroke k c.position p)
+  from_parts drive None s p q = refused (inl (inl p))
+  from_parts drive (Some k) None p q = refused (inl (inr q))
+  from_parts drive (Some k) (Some n) p q = by_drive drive k (no_reason p q) (taken_at_most 0 stroke k c.position p)
 
   module _ (drive : Drive) where
     comes : Comes (BadCylinder c ⊎ BadDrive drive) (moved c drive elapsed)

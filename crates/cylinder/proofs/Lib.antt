@@ -2,7 +2,6 @@ pub mod OneWay
 pub mod Exact
 pub mod Taken
 pub mod Decoding
-pub mod Ways
 pub mod Laws
 pub mod Once
 pub mod Worked

@@ -1,12 +1,8 @@
 -- No second answer meets the contract of a public function of this crate.
 -- Assumes nothing.
-use Rattle.std.proofs.Common.{◌≡◌, sym, ◌∙◌}
+use Rattle.std.proofs.Common.{sym, ◌∙◌}
 use Rattle.common.specs.OneAnswer.{OneAnswer}
-use Rattle.cylinder.specs.Answers.{parts_say, moved_says}
-use Rattle.cylinder.specs.declared.Parts.{Parts}
-use Rattle.cylinder.specs.declared.Parts.TheVariants.{Of, NoParts}
-use Rattle.cylinder.specs.declared.Moved.{Moved}
-use Rattle.cylinder.specs.declared.Moved.TheVariants.{To, Refused}
+use Rattle.refusals.proofs.Laws.{said_once}
 use Rattle.cylinder.proofs.fraction.Kinds as fraction_kinds
 use Rattle.cylinder.proofs.fraction.Reads as fraction_reads
 use Rattle.cylinder.proofs.parts_of.Kinds as parts_of_kinds
@@ -22,24 +18,11 @@ use Rattle.cylinder.proofs.Cylinder.is_sound.Reads as is_sound_reads
 use Rattle.cylinder.proofs.Cylinder.moved.Kinds as moved_kinds
 use Rattle.cylinder.proofs.Cylinder.moved.Reads as moved_reads
 
--- Two answers that come to the same in the request's numbers and values are one.
-one_parts : (r r' : Parts) → parts_say r ≡ parts_say r' → r ≡ r'
-one_parts (Of n) (Of m) h = cc
-one_parts (Of n) NoParts h = cc
-one_parts NoParts (Of m) h = cc
-one_parts NoParts NoParts h = cc
-
-one_moved : (r r' : Moved) → moved_says r ≡ moved_says r' → r ≡ r'
-one_moved (To c) (To d) h = cc
-one_moved (To c) Refused h = cc
-one_moved Refused (To d) h = cc
-one_moved Refused Refused h = cc
-
 pub fraction_once : OneAnswer 0 fraction_kinds.ps fraction_kinds.r fraction_reads.Post
 fraction_once κs a x y s t p q = p ∙ sym q
 
 pub parts_of_once : OneAnswer 0 parts_of_kinds.ps parts_of_kinds.r parts_of_reads.Post
-parts_of_once κs a x y s t p q = one_parts x y (p ∙ sym q)
+parts_of_once κs a x y s t p q = p ∙ sym q
 
 pub is_position_once : OneAnswer 0 is_position_kinds.ps is_position_kinds.r is_position_reads.Post
 is_position_once κs a x y s t p q = p ∙ sym q
@@ -54,4 +37,4 @@ pub is_sound_once : OneAnswer 0 is_sound_kinds.ps is_sound_kinds.r is_sound_read
 is_sound_once κs a x y s t p q = p ∙ sym q
 
 pub moved_once : OneAnswer 0 moved_kinds.ps moved_kinds.r moved_reads.Post
-moved_once κs a x y s t p q = one_moved x y (p ∙ sym q)
+moved_once κs a x y s t p q = said_once x y (p ∙ sym q)

@@ -1,8 +1,7 @@
 -- Request K8, one cylinder, worked over the rule: which floats are taken, each by its bits, and moves on both sides of the ends.
 -- Assumes nothing.
-use Rattle.std.specs.Prelude.{ℕ, List, [], ◌∷◌, ◌++◌, from_bits, Float}
+use Rattle.std.specs.Prelude.{ℕ, List, [], ◌∷◌, ◌++◌, Option, None, Some, from_bits, Float}
 use Prim.Native.String.{String}
-use Rattle.std.proofs.Math.Option.{Option, none, some}
 use Rattle.std.specs.Float.{binary32}
 use Rattle.common.specs.Answers.{Answer, gives, refuses}
 use Rattle.common.specs.Case.{Case}
@@ -19,8 +18,8 @@ with_bits bits = from_bits binary32 bits
 
 -- Shown by 1 and its parts where it is taken, and by 0 where it is not.
 unfoldable pub parts_shown : Option ℕ → List ℕ
-parts_shown none = 0 ∷ []
-parts_shown (some n) = 1 ∷ n ∷ []
+parts_shown None = 0 ∷ []
+parts_shown (Some n) = 1 ∷ n ∷ []
 
 unfoldable pub as_position : String → ℕ → List ℕ → Case
 as_position name bits wanted = record { name = name; gives = parts_shown (position_parts (with_bits bits)); wanted = wanted }

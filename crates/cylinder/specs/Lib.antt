@@ -1,4 +1,3 @@
 pub mod Fractions
 pub mod Moves
-pub mod Answers
 pub mod Cases

@@ -2,8 +2,7 @@
 -- from that step. .. Each accepted step moves by rate times elapsed and stops at the ends, and every float handed out equals its fraction
 -- exactly." Refusal 13 "for a rate or position that is none of those, minus zero among them".
 -- Assumes nothing.
-use Rattle.std.specs.Prelude.{◌≡◌, ℕ, ◌+◌, ◌-◌, ◌*◌, ◌≤◌, min, Bool, true, false, ◌&&◌, ◌⊎◌, Float}
-use Rattle.std.proofs.Math.Option.{Option, none, some}
+use Rattle.std.specs.Prelude.{◌≡◌, ℕ, ◌+◌, ◌-◌, ◌*◌, ◌≤◌, min, Bool, ◌&&◌, ◌⊎◌, Option, None, Some, is_some, Float}
 use Rattle.common.specs.Answers.{Answer, gives, refuses}
 use Rattle.cylinder.specs.declared.Drive.{Drive}
 use Rattle.cylinder.specs.declared.Drive.TheVariants.{Out, In, Hold, Stuck}
@@ -27,19 +26,15 @@ rate_parts x = parts_from 1 fastest x
 abbrev pub shown_parts : Float → Option ℕ
 shown_parts x = parts_from 0 fastest x
 
-abbrev pub is_taken : Option ℕ → Bool
-is_taken none = false
-is_taken (some n) = true
-
 unfoldable pub is_position : Float → Bool
-is_position x = is_taken (position_parts x)
+is_position x = is_some (position_parts x)
 
 unfoldable pub is_rate : Float → Bool
-is_rate x = is_taken (rate_parts x)
+is_rate x = is_some (rate_parts x)
 
 -- A cylinder that is handed in stands at a position, and shows a rate or 0.
 unfoldable pub is_sound : Cylinder → Bool
-is_sound c = is_taken (position_parts c.position) && is_taken (shown_parts c.rate)
+is_sound c = is_some (position_parts c.position) && is_some (shown_parts c.rate)
 
 -- ---- One move
 
@@ -49,18 +44,18 @@ cylinder_at position rate = record { position = fraction position; rate = fracti
 
 -- At so many parts, told so, after so many ms: out by rate times elapsed, and it stops at 1; ..
 abbrev pub moved_out : ℕ → ℕ → Option ℕ → Answer Cylinder
-moved_out k elapsed none = refuses 13
-moved_out k elapsed (some n) = gives (cylinder_at (min stroke (k + n * elapsed)) n)
+moved_out k elapsed None = refuses 13
+moved_out k elapsed (Some n) = gives (cylinder_at (min stroke (k + n * elapsed)) n)
 
 -- .. in, and it stops at 0; ..
 abbrev pub moved_in : ℕ → ℕ → Option ℕ → Answer Cylinder
-moved_in k elapsed none = refuses 13
-moved_in k elapsed (some n) = gives (cylinder_at (k - n * elapsed) n)
+moved_in k elapsed None = refuses 13
+moved_in k elapsed (Some n) = gives (cylinder_at (k - n * elapsed) n)
 
 -- .. or it stands at the position where it is stuck.
 abbrev pub stuck_at : Option ℕ → Answer Cylinder
-stuck_at none = refuses 13
-stuck_at (some p) = gives (cylinder_at p 0)
+stuck_at None = refuses 13
+stuck_at (Some p) = gives (cylinder_at p 0)
 
 abbrev pub moved_by : Drive → ℕ → ℕ → Answer Cylinder
 moved_by (Out rate) k elapsed = moved_out k elapsed (rate_parts rate)
@@ -70,9 +65,9 @@ moved_by (Stuck position) k elapsed = stuck_at (position_parts position)
 
 -- A cylinder that is handed in stands at a position, and shows a rate or 0; any other is refused too.
 abbrev pub moved_from : Option ℕ → Option ℕ → Drive → ℕ → Answer Cylinder
-moved_from none rate drive elapsed = refuses 13
-moved_from (some k) none drive elapsed = refuses 13
-moved_from (some k) (some n) drive elapsed = moved_by drive k elapsed
+moved_from None rate drive elapsed = refuses 13
+moved_from (Some k) None drive elapsed = refuses 13
+moved_from (Some k) (Some n) drive elapsed = moved_by drive k elapsed
 
 unfoldable pub moved : Cylinder → Drive → ℕ → Answer Cylinder
 moved c drive elapsed = moved_from (position_parts c.position) (shown_parts c.rate) drive elapsed
@@ -81,14 +76,14 @@ moved c drive elapsed = moved_from (position_parts c.position) (shown_parts c.ra
 
 -- The cylinder that is handed in is none: its position is no position, or the rate that it shows neither a rate nor 0.
 abbrev pub BadCylinder : Cylinder → Type 0
-BadCylinder c = (position_parts c.position ≡ none) ⊎ (shown_parts c.rate ≡ none)
+BadCylinder c = (position_parts c.position ≡ None) ⊎ (shown_parts c.rate ≡ None)
 
 -- What it is told names a rate that is none, or a position that is none.
 abbrev pub BadDrive : Drive → Type 0
-BadDrive (Out rate) = rate_parts rate ≡ none
-BadDrive (In rate) = rate_parts rate ≡ none
+BadDrive (Out rate) = rate_parts rate ≡ None
+BadDrive (In rate) = rate_parts rate ≡ None
 BadDrive Hold = ⊥
-BadDrive (Stuck position) = position_parts position ≡ none
+BadDrive (Stuck position) = position_parts position ≡ None
 
 -- "Every float handed out equals its fraction exactly": a cylinder at so many parts, that shows so many.
 pub record InParts (c : Cylinder) : Type 0 where

@@ -5,9 +5,11 @@
 
 ghost use Rattle.std.specs.Prelude.{◌≡◌, ◌+◌, ◌-◌, ◌*◌, min, not, T, ◌==◌, is_nan, to_bits};
 ghost use Rattle.std.specs.Float.{binary32};
+ghost use Rattle.refusals.specs.Answers.{says};
 ghost use Rattle.cylinder.specs.Fractions.{stroke, fraction, within, parts_from};
-ghost use Rattle.cylinder.specs.Moves.{position_parts, rate_parts, shown_parts, is_taken, is_position, is_rate, is_sound, cylinder_at, moved_out, moved_in, stuck_at, moved_by, moved};
-ghost use Rattle.cylinder.specs.Answers.{parts_say, moved_says};
+ghost use Rattle.cylinder.specs.Moves.{position_parts, rate_parts, shown_parts, is_position, is_rate, is_sound, cylinder_at, moved_by, moved};
+
+use refusals::Refusal;
 
 // A stroke has so many parts (`stroke` of specs/Fractions.antt).
 const STROKE: u16 = 16384;
@@ -37,20 +39,6 @@ pub enum Drive {
     Stuck(f32),
 }
 
-// A cylinder after a move, or refusal 13.
-#[derive(Clone, Copy)]
-pub enum Moved {
-    To(Cylinder),
-    Refused,
-}
-
-// How many whole 16384ths a float is.
-#[derive(Clone, Copy)]
-pub enum Parts {
-    Of(u32),
-    NoParts,
-}
-
 // The float for so many parts.
 pub fn fraction(parts: u16) -> f32
     ensures { result ≡ fraction parts }
@@ -64,79 +52,62 @@ fn same_bits(x: f32, y: f32) -> bool
     requires t_2 { T (not (is_nan y)) }
     ensures { result ≡ (to_bits binary32 x == to_bits binary32 y) }
 {
-    f32::to_bits(x) == f32::to_bits(y)
+    x.to_bits() == y.to_bits()
 }
 
 // How many whole parts a float is, from 0 to 1.
-pub fn parts_of(x: f32) -> Parts
-    ensures { parts_say result ≡ parts_from 0 stroke x }
+pub fn parts_of(x: f32) -> Option<u32>
+    ensures { result ≡ parts_from 0 stroke x }
 {
     // No NaN passes both tests.
     let scaled = x * SCALE;
     if scaled < 0.0 {
-        return Parts::NoParts;
+        return None;
     }
     if scaled <= SCALE {
         let parts = std::num::truncating_f32_to_u64(scaled) as u16;
         if same_bits(x, fraction(parts)) {
-            return Parts::Of(parts as u32);
+            return Some(parts as u32);
         }
     }
-    Parts::NoParts
+    None
 }
 
 // The same from `least` parts to `most`.
-fn parts_within(x: f32, least: u32, most: u32) -> Parts
-    ensures { parts_say result ≡ within least most (parts_from 0 stroke x) }
+fn parts_within(x: f32, least: u32, most: u32) -> Option<u32>
+    ensures { result ≡ within least most (parts_from 0 stroke x) }
 {
-    let Parts::Of(n) = parts_of(x) else {
-        return Parts::NoParts;
-    };
-    if n < least {
-        return Parts::NoParts;
-    }
-    if most < n {
-        return Parts::NoParts;
-    }
-    Parts::Of(n)
+    parts_of(x).filter(|n| least <= *n && *n <= most)
 }
 
 // How many parts a ms a rate is.
-fn rate_parts(x: f32) -> Parts
-    ensures { parts_say result ≡ rate_parts x }
+fn rate_parts(x: f32) -> Option<u32>
+    ensures { result ≡ rate_parts x }
 {
     parts_within(x, 1, FASTEST)
 }
 
 // How many parts a ms the rate is that a cylinder shows.
-fn shown_parts(x: f32) -> Parts
-    ensures { parts_say result ≡ shown_parts x }
+fn shown_parts(x: f32) -> Option<u32>
+    ensures { result ≡ shown_parts x }
 {
     parts_within(x, 0, FASTEST)
 }
 
 // Whether a float is a position.
+#[tactic(auto, unfolding(crate::specs::Moves::is_position))]
 pub fn is_position(x: f32) -> bool
     ensures { result ≡ is_position x }
 {
-    is_taken(parts_of(x))
+    parts_of(x).is_some()
 }
 
 // Whether a float is a rate.
+#[tactic(auto, unfolding(crate::specs::Moves::is_rate))]
 pub fn is_rate(x: f32) -> bool
     ensures { result ≡ is_rate x }
 {
-    is_taken(rate_parts(x))
-}
-
-// Whether there are parts.
-fn is_taken(parts: Parts) -> bool
-    ensures { result ≡ is_taken (parts_say parts) }
-{
-    match parts {
-        Parts::Of(_) => true,
-        Parts::NoParts => false,
-    }
+    rate_parts(x).is_some()
 }
 
 // A cylinder at k parts moves at n parts a ms: where it is after so many ms on its way out, ..
@@ -144,67 +115,41 @@ fn out_from(k: u16, n: u32, elapsed: u32) -> u16
     ensures { result ≡ min stroke (k + n * elapsed) }
 {
     let reached = (k as u64) + (n as u64) * (elapsed as u64);
-    if reached < STROKE as u64 {
-        return reached as u16;
-    }
-    STROKE
+    reached.min(STROKE as u64) as u16
 }
 
-// .. and on its way in.
+// .. and on its way in. (A function for each way: the one stops at the stroke, the other at 0.)
 fn in_from(k: u16, n: u32, elapsed: u32) -> u16
     ensures { result ≡ k - n * elapsed }
 {
     let way = (n as u64) * (elapsed as u64);
-    if way < k as u64 {
-        return k - (way as u16);
-    }
-    0
-}
-
-// A cylinder at so many parts is told to move out at a rate, ..
-fn moved_out(k: u16, elapsed: u32, rate: f32) -> Moved
-    ensures { moved_says result ≡ moved_out k elapsed (rate_parts rate) }
-{
-    let Parts::Of(n) = rate_parts(rate) else {
-        return Moved::Refused;
-    };
-    Moved::To(Cylinder::at(out_from(k, n, elapsed), n as u16))
-}
-
-// .. or in, ..
-fn moved_in(k: u16, elapsed: u32, rate: f32) -> Moved
-    ensures { moved_says result ≡ moved_in k elapsed (rate_parts rate) }
-{
-    let Parts::Of(n) = rate_parts(rate) else {
-        return Moved::Refused;
-    };
-    Moved::To(Cylinder::at(in_from(k, n, elapsed), n as u16))
-}
-
-// .. or is stuck at a position, wherever it was.
-fn stuck_at(position: f32) -> Moved
-    ensures { moved_says result ≡ stuck_at (position_parts position) }
-{
-    let Parts::Of(p) = parts_of(position) else {
-        return Moved::Refused;
-    };
-    Moved::To(Cylinder::at(p as u16, 0))
+    (k as u64).saturating_sub(way) as u16
 }
 
 // A cylinder at so many parts, by what it is told.
-fn moved_by(drive: Drive, k: u16, elapsed: u32) -> Moved
-    ensures { moved_says result ≡ moved_by drive k elapsed }
+fn moved_by(drive: Drive, k: u16, elapsed: u32) -> Result<Cylinder, Refusal>
+    ensures { says result ≡ moved_by drive k elapsed }
 {
     match drive {
-        Drive::Out(rate) => moved_out(k, elapsed, rate),
-        Drive::In(rate) => moved_in(k, elapsed, rate),
-        Drive::Hold => Moved::To(Cylinder::at(k, 0)),
-        Drive::Stuck(position) => stuck_at(position),
+        Drive::Out(rate) => {
+            let n = rate_parts(rate).ok_or(Refusal::Fraction)?;
+            Ok(Cylinder::at(out_from(k, n, elapsed), n as u16))
+        }
+        Drive::In(rate) => {
+            let n = rate_parts(rate).ok_or(Refusal::Fraction)?;
+            Ok(Cylinder::at(in_from(k, n, elapsed), n as u16))
+        }
+        Drive::Hold => Ok(Cylinder::at(k, 0)),
+        Drive::Stuck(position) => {
+            let p = parts_of(position).ok_or(Refusal::Fraction)?;
+            Ok(Cylinder::at(p as u16, 0))
+        }
     }
 }
 
 impl Cylinder {
     // A cylinder that stands at so many parts and shows so many as its rate.
+    #[tactic(auto, unfolding(crate::specs::Moves::cylinder_at))]
     pub fn at(position: u16, rate: u16) -> Self
         ensures { result ≡ cylinder_at position rate }
     {
@@ -215,22 +160,20 @@ impl Cylinder {
     }
 
     // Whether it stands at a position, and shows a rate or 0.
+    #[tactic(auto, unfolding(crate::specs::Moves::is_sound))]
     pub fn is_sound(self) -> bool
         ensures { result ≡ is_sound self }
     {
-        is_taken(parts_of(self.position)) & is_taken(shown_parts(self.rate))
+        parts_of(self.position).is_some() && shown_parts(self.rate).is_some()
     }
 
     // The cylinder some ms later, by what it is told; or refusal 13.
-    pub fn moved(self, drive: Drive, elapsed: u32) -> Moved
-        ensures { moved_says result ≡ moved self drive elapsed }
+    #[tactic(auto, unfolding(crate::specs::Moves::moved))]
+    pub fn moved(self, drive: Drive, elapsed: u32) -> Result<Self, Refusal>
+        ensures { says result ≡ moved self drive elapsed }
     {
-        let Parts::Of(k) = parts_of(self.position) else {
-            return Moved::Refused;
-        };
-        let Parts::Of(_) = shown_parts(self.rate) else {
-            return Moved::Refused;
-        };
+        let k = parts_of(self.position).ok_or(Refusal::Fraction)?;
+        shown_parts(self.rate).ok_or(Refusal::Fraction)?;
         moved_by(drive, k as u16, elapsed)
     }
 }

@@ -2,16 +2,18 @@
 // `bin/sheet`, `bin/handover` and `bin/wall` give it the first one.
 #![tactic(auto)]
 
-use words::{Streams, arguments, rooms};
+use words::rooms::{LARGE, SMALL, zeros};
+use words::{Streams, arguments};
 
 // More words than any use has.
 const MOST_WORDS: usize = 16;
 
 fn main(rt: HostRuntime) {
-    let mut first = rooms::small();
-    let mut second = rooms::large();
-    let mut third = rooms::large();
-    let mut fourth = rooms::large();
+    // A buffer and a length for each word: there is no heap.
+    let mut first = zeros::<SMALL>();
+    let mut second = zeros::<LARGE>();
+    let mut third = zeros::<LARGE>();
+    let mut fourth = zeros::<LARGE>();
     let a = arguments::word(&rt, 1, &mut first);
     let b = arguments::word(&rt, 2, &mut second);
     let c = arguments::word(&rt, 3, &mut third);
@@ -21,13 +23,7 @@ fn main(rt: HostRuntime) {
         output: rt.stdout(),
         errors: rt.stderr(),
     };
-    commands::uses::by_words(
-        &rt,
-        &mut streams,
-        arguments::count(&rt, MOST_WORDS),
-        &first[..a],
-        &second[..b],
-        &third[..c],
-        &fourth[..d],
-    );
+    let words: [&[u8]; 5] = [&first[..a], &second[..b], &third[..c], &fourth[..d], b""];
+    let given = arguments::count(&rt, MOST_WORDS).saturating_sub(1);
+    commands::uses::by_words(&rt, &mut streams, &words[..given.min(words.len())]);
 }

@@ -1,20 +1,20 @@
 -- Where there is no such moment: what would be written of it has as many bytes as at the time that the code takes for it.
 -- Assumes nothing.
-use Prim.Native.Nat.{ℕ, zero, suc, ◌+◌, ◌/◌, ◌%◌, ◌^◌, ◌≤◌}
+use Prim.Native.Nat.{ℕ, zero, suc, ◌+◌, ◌-◌, ◌/◌, ◌%◌, ◌^◌, ◌<◌, ◌≤◌, min}
+use borrow.Author.Tests.{eq-eqb, ne_eqb, lt-ltb, le-ltb, le-leb, lt-leb, leb-true, leb-false}
 use native.Mathlib.Nat.{pow-suc}
 use native.Mathlib.Omega.{arith}
-use mathlib.Core.Bool.{Bool, true, false, cond}
+use mathlib.Core.Bool.{Bool, true, false, cond, or-true}
 use mathlib.Core.List.{List, [], ◌∷◌, ◌++◌}
 use mathlib.Core.Path.{◌≡◌, refl, sym, ap, ◌∙◌}
-use lib.Dec.{ltb}
+use lib.Dec.{eqb, ltb, leb}
 use lib.ListN.{length, length-append}
 use Rattle.common.specs.Decimal.{digit0, decimal, decimal_up_to}
 use Rattle.common.proofs.Decimals.{last_digit}
 use Rattle.dump.specs.declared.Dump.{Dump}
-use Rattle.dump.specs.declared.Wrote.{Wrote}
 use Rattle.dump.specs.Wires.{first_code}
 use Rattle.dump.specs.Dumps.{changes_from, timed, moment_text}
-use Rattle.dump.specs.Writes.{refused, text_after, no_time, next_of}
+use Rattle.dump.specs.Writes.{refused, in_front, text_after, no_time, next_of}
 
 -- ---- Times that have twenty digits
 
@@ -64,15 +64,47 @@ as_long olds values s t h k = timed_as_long s t (changes_from first_code olds va
 
 -- ---- What is answered
 
-eight_or_nine : (t : Bool) (dump : Dump) (buffer : List ℕ)
-    → ◌≡◌ {A = Wrote × List ℕ} (refused (cond t 8 9) dump, buffer) (cond t (refused 8 dump, buffer) (refused 9 dump, buffer))
-eight_or_nine true dump buffer = refl
-eight_or_nine false dump buffer = refl
+-- There is no such time where none has passed, and where it would reach 2 ^ 64.
+pub none_passed : (dump : Dump) (elapsed : ℕ) → elapsed ≡ 0 → no_time dump elapsed ≡ true
+none_passed dump elapsed e = rw (eq-eqb elapsed 0 e)
 
-pub none_written : (dump : Dump) (elapsed : ℕ) (values : List Bool) (buffer : List ℕ) (time : ℕ) → no_time dump elapsed ≡ true
-    → length (moment_text dump.values (record { time = time; values = values })) ≡ length (text_after dump elapsed values)
-    → (refused (cond (ltb (length buffer) (length (moment_text dump.values (record { time = time; values = values })))) 8 9) dump, buffer)
-    ≡ next_of dump elapsed values buffer
-unfolding next_of
-none_written dump elapsed values buffer time late same =
-    rw (late, same) (eight_or_nine (ltb (length buffer) (length (text_after dump elapsed values))) dump buffer)
+pub too_late : (dump : Dump) (elapsed : ℕ) → 2 ^ 64 ≤ dump.time + elapsed → no_time dump elapsed ≡ true
+too_late dump elapsed h = rw (le-leb (2 ^ 64) (dump.time + elapsed) h) (or-true (eqb elapsed 0))
+
+-- At the time that the code takes for it, the last one below 2 ^ 64 where there is no such time.
+module _ (dump : Dump) (elapsed : ℕ) (values : List Bool) (buffer : List ℕ) (time : ℕ) (least : time ≡ min (dump.time + elapsed) (2 ^ 64 - 1)) where
+  abbrev text : List ℕ
+  text = moment_text dump.values (record { time = time; values = values })
+
+  -- It has as many bytes as what would be written.
+  as_many : length text ≡ length (text_after dump elapsed values)
+  as_many = by_test (leb (2 ^ 64) (dump.time + elapsed)) refl where
+    by_test : (t : Bool) → leb (2 ^ 64) (dump.time + elapsed) ≡ t → length text ≡ length (text_after dump elapsed values)
+    by_test true e =
+        let late = leb-true (2 ^ 64) (dump.time + elapsed) e in
+        as_long dump.values values time (dump.time + elapsed) (omega arith) (omega arith)
+    by_test false e =
+        let early = leb-false (2 ^ 64) (dump.time + elapsed) e in
+        let same : time ≡ dump.time + elapsed = omega arith in
+        ap (λ (t : ℕ). length (moment_text dump.values (record { time = t; values = values }))) same
+
+  pub no_room : length buffer < length text → (refused 8 dump, buffer) ≡ next_of dump elapsed values buffer
+  unfolding next_of
+  no_room h = rw (lt-ltb (length buffer) (length (text_after dump elapsed values)) (omega (arith, as_many)))
+
+  module _ (room : length text ≤ length buffer) where
+    pub no_moment : no_time dump elapsed ≡ true → (refused 9 dump, buffer) ≡ next_of dump elapsed values buffer
+    unfolding next_of
+    no_moment e = rw (le-ltb (length buffer) (length (text_after dump elapsed values)) (omega (arith, as_many)), e)
+
+    pub moment : (elapsed ≡ 0 → ⊥) → dump.time + elapsed < 2 ^ 64
+        → in_front (record { time = time; values = values }) text buffer ≡ next_of dump elapsed values buffer
+    unfolding next_of
+    moment some early =
+        let same : time ≡ dump.time + elapsed = omega arith in
+        rw (
+          le-ltb (length buffer) (length (text_after dump elapsed values)) (omega (arith, as_many)),
+          ne_eqb elapsed 0 some,
+          lt-leb (2 ^ 64) (dump.time + elapsed) early,
+          same,
+        )

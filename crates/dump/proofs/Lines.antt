@@ -4,12 +4,14 @@ use Prim.Native.Nat.{ℕ, zero, suc, ◌+◌, ◌-◌, ◌*◌, ◌<◌, ◌≤�
 use native.Mathlib.Nat.{add-zero, add-suc, suc-add, le_of_suc-le-suc, not-suc-le-zero}
 use native.Mathlib.Numerals.{add-one}
 use native.Mathlib.Omega.{arith}
-use mathlib.Core.Bool.{Bool, true, false, not, ◌||◌, or-false, beq}
+use mathlib.Core.Bool.{Bool, true, false, true≢false, false≢true, ◌&&◌, beq}
+use lib.Pointwise.{pointwise}
 use mathlib.Core.List.{List, [], ◌∷◌, ◌++◌, append_assoc, append-nil}
 use mathlib.Core.Path.{◌≡◌, refl, sym, ap, ◌∙◌}
 use lib.ListN.{length, get_or, take, length-append, get_or-append}
 use lib.Seq.{get_or-append-add}
 use Rattle.names.specs.Words.{entry, order_names, lamp_names, sensor_names}
+use Rattle.texts.proofs.Lines.{same, nothing}
 use Rattle.dump.specs.Wires.{wire_names, wires, first_code}
 use Rattle.dump.specs.Dumps.{
   lines_from,
@@ -24,7 +26,6 @@ use Rattle.dump.specs.Dumps.{
   value_line,
   value_lines,
   differ,
-  some_differ,
   change_line,
   changes_from,
   time_line,
@@ -40,15 +41,6 @@ names_length = refl
 pub opening_length_lem : length opening_text ≡ opening_length
 unfolding opening_text lines_from declaration wire_names order_names lamp_names sensor_names
 opening_length_lem = refl
-
--- What stands before the declarations, these, and what stands behind them.
-pub opening_parts : length lines_before + length (declarations first_code wire_names) + length lines_behind ≡ opening_length
-unfolding lines_from declaration wire_names order_names lamp_names sensor_names
-opening_parts = refl
-
-pub declaration_length : (code : ℕ) (name : List ℕ) → length (declaration code name) ≡ 20 + length name
-unfolding declaration
-declaration_length code name = simp length-append (omega arith)
 
 -- What follows the first values.
 pub closing_length_lem : length closing_text ≡ closing_length
@@ -75,6 +67,8 @@ sensor_name wire h =
     let place : length (order_names ++ lamp_names) + (wire - 8) ≡ wire = omega arith in
     sym (ap (λ (n : ℕ). get_or (order_names ++ lamp_names ++ sensor_names) n []) (sym place)
     ∙ get_or-append-add (order_names ++ lamp_names) sensor_names (wire - 8) [])
+
+pub ruleset wire_name = (order_name, lamp_name, sensor_name)
 
 -- ---- One wire more
 
@@ -148,12 +142,7 @@ unchanged code old new e = rw (is_same old new e)
 pub changed : (code : ℕ) (old new : Bool) → beq old new ≡ false → change_line code old new ≡ value_line code new
 changed code old new e = rw (is_another old new e)
 
--- As the loop tests it.
-pub tests_differ : (old new : Bool) → not (beq old new) ≡ differ old new
-tests_differ true true = refl
-tests_differ true false = refl
-tests_differ false true = refl
-tests_differ false false = refl
+pub ruleset wire_change = (unchanged, changed, same, nothing)
 
 -- A line has at most three bytes.
 pub change_length : (code : ℕ) (old new : Bool) → length (change_line code old new) ≤ 3
@@ -172,55 +161,33 @@ changes_length code (o ∷ os) (n ∷ ns) =
 
 -- ---- A time at which something changes, and one at which nothing does
 
-pub not_timed : (time : ℕ) (changes : List ℕ) → length changes ≡ 0 → timed time changes ≡ []
-not_timed time [] e = refl
-not_timed time (b ∷ changes) e = absurd (omega arith)
-
 pub is_timed : (time : ℕ) (changes : List ℕ) → 0 < length changes → timed time changes ≡ time_line time ++ changes
 is_timed time [] h = absurd (omega arith)
 is_timed time (b ∷ changes) h = refl
 
 -- ---- Whether something changes
 
-in_turn : (t u v : Bool) → (t || (u || v)) ≡ ((t || u) || v)
-in_turn true u v = refl
-in_turn false u v = refl
-
-differ_more : (i : ℕ) (os ns : List Bool) → i < length os → i < length ns
-    → some_differ (take (suc i) os) (take (suc i) ns)
-    ≡ (some_differ (take i os) (take i ns) || differ (get_or os i false) (get_or ns i false))
-differ_more i [] ns h k = absurd (not-suc-le-zero h)
-differ_more i (o ∷ os) [] h k = absurd (not-suc-le-zero k)
-differ_more zero (o ∷ os) (n ∷ ns) h k = or-false (differ o n)
-differ_more (suc i) (o ∷ os) (n ∷ ns) h k =
-    ap (λ (t : Bool). differ o n || t) (differ_more i os ns (le_of_suc-le-suc h) (le_of_suc-le-suc k))
-    ∙ in_turn (differ o n) (some_differ (take i os) (take i ns)) (differ (get_or os i false) (get_or ns i false))
-
--- As a loop counts.
-pub differ_turn : (i : ℕ) (os ns : List Bool) → i < length os → i < length ns
-    → (some_differ (take i os) (take i ns) || not (beq (get_or os i false) (get_or ns i false)))
-    ≡ some_differ (take (i + 1) os) (take (i + 1) ns)
-differ_turn i os ns h k = rw (add-one i, tests_differ (get_or os i false) (get_or ns i false)) (sym (differ_more i os ns h k))
-
--- Where nothing does, no change is written; where something does, one is.
-pub none_differ : (code : ℕ) (os ns : List Bool) → some_differ os ns ≡ false → length (changes_from code os ns) ≡ 0
+-- The same values are no change.
+pub no_change : (code : ℕ) (os ns : List Bool) → pointwise beq os ns ≡ true → changes_from code os ns ≡ []
 unfolding changes_from
-none_differ code [] ns e = refl
-none_differ code (o ∷ os) [] e = refl
-none_differ code (o ∷ os) (n ∷ ns) e = by_wire (differ o n) refl e (λ f. none_differ (suc code) os ns f) where
-  by_wire : (t : Bool) → differ o n ≡ t → (t || some_differ os ns) ≡ false
-      → (some_differ os ns ≡ false → length (changes_from (suc code) os ns) ≡ 0)
-      → length (change_line code o n ++ changes_from (suc code) os ns) ≡ 0
-  by_wire true d f on = let z : ◌≡◌ {A = ℕ} 0 1 = cc in absurd (omega arith)
-  by_wire false d f on = rw d (on f)
+no_change code [] ns e = refl
+no_change code (o ∷ os) [] e = refl
+no_change code (o ∷ os) (n ∷ ns) e = by_wire (beq o n) refl e (λ f. no_change (suc code) os ns f) where
+  by_wire : (t : Bool) → beq o n ≡ t → (t && pointwise beq os ns) ≡ true
+      → (pointwise beq os ns ≡ true → changes_from (suc code) os ns ≡ [])
+      → change_line code o n ++ changes_from (suc code) os ns ≡ []
+  by_wire true d f on = rw (unchanged code o n d) (on f)
+  by_wire false d f on = absurd (false≢true f)
 
-pub some_differ_lem : (code : ℕ) (os ns : List Bool) → some_differ os ns ≡ true → 0 < length (changes_from code os ns)
+-- Others, as many, are one.
+pub some_change : (code : ℕ) (os ns : List Bool) → length os ≡ length ns → pointwise beq os ns ≡ false → 0 < length (changes_from code os ns)
 unfolding changes_from
-some_differ_lem code [] ns e = let z : ◌≡◌ {A = ℕ} 0 1 = cc in absurd (omega arith)
-some_differ_lem code (o ∷ os) [] e = let z : ◌≡◌ {A = ℕ} 0 1 = cc in absurd (omega arith)
-some_differ_lem code (o ∷ os) (n ∷ ns) e = by_wire (differ o n) refl e (λ f. some_differ_lem (suc code) os ns f) where
-  by_wire : (t : Bool) → differ o n ≡ t → (t || some_differ os ns) ≡ true
-      → (some_differ os ns ≡ true → 0 < length (changes_from (suc code) os ns))
+some_change code [] [] h e = absurd (true≢false e)
+some_change code [] (n ∷ ns) h e = absurd (omega arith)
+some_change code (o ∷ os) [] h e = absurd (omega arith)
+some_change code (o ∷ os) (n ∷ ns) h e = by_wire (beq o n) refl e (λ f. some_change (suc code) os ns (omega arith) f) where
+  by_wire : (t : Bool) → beq o n ≡ t → (t && pointwise beq os ns) ≡ false
+      → (pointwise beq os ns ≡ false → 0 < length (changes_from (suc code) os ns))
       → 0 < length (change_line code o n ++ changes_from (suc code) os ns)
-  by_wire true d f on = rw d (omega arith)
-  by_wire false d f on = rw d (on f)
+  by_wire true d f on = rw (unchanged code o n d) (on f)
+  by_wire false d f on = rw (changed code o n d) (omega arith)

@@ -1,6 +1,6 @@
 -- Request K2: the value change dump, from a list of times and values to all its bytes.
 -- Assumes nothing.
-use Rattle.std.specs.Prelude.{ℕ, suc, ◌+◌, ◌*◌, ◌^◌, ◌<◌, Bool, true, false, cond, ◌||◌, List, [], ◌∷◌, ◌++◌, ◌≡◌, length}
+use Rattle.std.specs.Prelude.{ℕ, suc, ◌+◌, ◌*◌, ◌^◌, ◌<◌, Bool, true, false, cond, List, [], ◌∷◌, ◌++◌, ◌≡◌, length}
 use Rattle.common.specs.Ascii.{ascii, lf}
 use Rattle.common.specs.Bits.{bit}
 use Rattle.common.specs.Decimal.{decimal, digit0}
@@ -90,12 +90,6 @@ differ false false = false
 differ false true = true
 differ true false = true
 differ true true = false
-
--- Some wire changes.
-abbrev pub some_differ : List Bool → List Bool → Bool
-some_differ [] news = false
-some_differ (old ∷ olds) [] = false
-some_differ (old ∷ olds) (new ∷ news) = differ old new || some_differ olds news
 
 -- A wire that changes is written with its new value; one that does not, is not.
 abbrev pub change_line : ℕ → Bool → Bool → List ℕ

@@ -2,7 +2,7 @@
 -- Assumes nothing.
 use Rattle.std.specs.Prelude.{ℕ, Bool, cond, List, [], ◌∷◌, ◌++◌, ◌≡◌, eqb, length, take}
 use Rattle.dump.specs.declared.Dump.{Dump}
-use Rattle.dump.specs.declared.Wrote.{Wrote}
+use Rattle.dump.specs.Answers.{Wrote}
 use Rattle.dump.specs.Wires.{wires}
 use Rattle.dump.specs.Dumps.{Moment}
 use Rattle.dump.specs.Writes.{moment_after, next_of}

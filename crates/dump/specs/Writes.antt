@@ -3,7 +3,7 @@
 -- Assumes nothing.
 use Rattle.std.specs.Prelude.{ℕ, ◌+◌, ◌^◌, Bool, cond, ◌||◌, List, ◌++◌, eqb, leb, ltb, length, drop}
 use Rattle.dump.specs.declared.Dump.{Dump}
-use Rattle.dump.specs.declared.Wrote.{Wrote}
+use Rattle.dump.specs.Answers.{Wrote}
 use Rattle.dump.specs.Dumps.{Moment, head_text, moment_text}
 
 -- A refusal: its number, the dump as it was, and nothing written.

@@ -4,8 +4,8 @@
 // proofs/Law.antt that what is written in all is the dump of the whole list.
 #![tactic(auto)]
 
-ghost use Rattle.std.specs.Prelude.{◌≡◌, ◌+◌, ◌*◌, ◌≤◌, ◌<◌, cond, ltb, length, take};
-ghost use Rattle.texts.specs.Puts.{Put, put_of};
+ghost use Rattle.std.specs.Prelude.{◌≡◌, ◌+◌, ◌*◌, ◌≤◌, ◌<◌, length, take};
+ghost use Rattle.texts.specs.Lines.{Puts, PutsIfRoom};
 ghost use Rattle.names.specs.Words.{entry};
 ghost use Rattle.dump.specs.Wires.{wire_names, wires, first_code};
 ghost use Rattle.dump.specs.Dumps.{
@@ -19,16 +19,18 @@ ghost use Rattle.dump.specs.Dumps.{
   value_lines,
   head_text,
   change_line,
-  some_differ,
   changes_from,
   time_line,
   time_room,
   moment_room,
   moment_text,
 };
-ghost use Rattle.dump.specs.Writes.{refused, placed, start_of, next_of};
+ghost use Rattle.dump.specs.Answers.{wrote_says};
+ghost use Rattle.dump.specs.Writes.{starts_with, start_of, next_of};
 
-use names::{LAMPS, ORDERS};
+use names::{Kind, LAMPS, ORDERS};
+use refusals::Refusal;
+use texts::Line;
 
 // There are so many wires.
 pub const WIRES: usize = 26;
@@ -53,10 +55,9 @@ pub struct Dump {
     pub values: [bool; WIRES],
 }
 
-// What the writer answers: 0 or its refusal, the dump after it, and how many bytes were written.
+// What the writer answers: the dump after it, and how many bytes were written.
 #[derive(Clone, Copy)]
 pub struct Wrote {
-    pub refusal: u8,
     pub dump: Dump,
     pub written: usize,
 }
@@ -66,11 +67,13 @@ pub fn opening() -> [u8; OPENING_LENGTH]
     ensures { result ≡ opening_text }
 {
     let mut text = [0u8; OPENING_LENGTH];
-    put_opening(&mut text);
+    let mut line = Line::new(&mut text);
+    put_opening(&mut line);
     text
 }
 
 // What follows the first values.
+#[tactic(auto, unfolding(crate::specs::Dumps::closing_text))]
 pub fn closing() -> [u8; CLOSING_LENGTH]
     ensures { result ≡ closing_text }
 {
@@ -79,222 +82,156 @@ pub fn closing() -> [u8; CLOSING_LENGTH]
 
 impl Dump {
     // A dump at its start: writes its head, with the values at time 0.
-    pub fn start(values: [bool; WIRES], out: &mut [u8]) -> Wrote
-        ensures { (result, out.new) ≡ start_of values out.old }
+    pub fn start(values: [bool; WIRES], out: &mut [u8]) -> Result<Wrote, Refusal>
+        ensures { (wrote_says (starts_with values) result, out.new) ≡ start_of values out.old }
     {
-        let dump = Dump { time: 0, values };
-        let mut text = [0u8; HEAD_LENGTH];
-        let end = put_head(&mut text, values);
-        hand_over(dump, dump, &text[..end], out)
+        let mut room = [0u8; HEAD_LENGTH];
+        let mut line = Line::new(&mut room);
+        put_head(&mut line, values);
+        let head = line.text();
+        if out.len() < head.len() {
+            return Err(Refusal::Room);
+        }
+        Ok(Wrote {
+            dump: Dump { time: 0, values },
+            written: spans::copy(head, out),
+        })
     }
 
-    // So many ms later, with these values: writes what changes. 8 for room, then 9 where no time passed or the time would reach 2^64.
-    pub fn next(self, elapsed: u64, values: [bool; WIRES], out: &mut [u8]) -> Wrote
-        ensures { (result, out.new) ≡ next_of self elapsed values out.old }
+    // So many ms later, with these values: writes what changes. 8 for room, then 9 where no time passed or the time would reach 2^64;
+    // what would be written at that time has as many bytes as at the last one below it.
+    pub fn next(self, elapsed: u64, values: [bool; WIRES], out: &mut [u8]) -> Result<Wrote, Refusal>
+        ensures { (wrote_says self result, out.new) ≡ next_of self elapsed values out.old }
     {
-        if elapsed == 0 {
-            return self.unwritten(self.time, values, out.len());
+        let time = self.time.saturating_add(elapsed);
+        let mut room = [0u8; MOMENT_ROOM];
+        let mut line = Line::new(&mut room);
+        put_moment(&mut line, time, self.values, values);
+        let moment = line.text();
+        if out.len() < moment.len() {
+            return Err(Refusal::Room);
         }
-        if u64::MAX - self.time < elapsed {
-            return self.unwritten(u64::MAX, values, out.len());
+        if elapsed == 0 || u64::MAX - self.time < elapsed {
+            return Err(Refusal::Dump);
         }
-        let time = self.time + elapsed;
-        let after = Dump { time, values };
-        let olds = self.values;
-        let mut text = [0u8; MOMENT_ROOM];
-        let end = put_moment(&mut text, time, olds, values);
-        hand_over(self, after, &text[..end], out)
-    }
-
-    // A moment that there is not, with what would be written of it at a time that has as many digits: 8 where the buffer has no room
-    // for that, and else 9.
-    fn unwritten(self, time: u64, values: [bool; WIRES], bytes: usize) -> Wrote
-        ensures { result ≡ refused (cond (ltb bytes (length (moment_text self.values (record { time = time; values = values })))) 8 9) self }
-    {
-        let olds = self.values;
-        let mut text = [0u8; MOMENT_ROOM];
-        if bytes < put_moment(&mut text, time, olds, values) {
-            return self.refused(8);
-        }
-        self.refused(9)
-    }
-
-    // A refusal leaves the dump as it was.
-    fn refused(self, refusal: u8) -> Wrote
-        ensures { result ≡ refused refusal self }
-    {
-        Wrote {
-            refusal,
-            dump: self,
-            written: 0,
-        }
-    }
-}
-
-// Hands a text to the lent buffer where there is room for it.
-fn hand_over(before: Dump, after: Dump, text: &[u8], out: &mut [u8]) -> Wrote
-    ensures { (result, out.new) ≡ placed before after text.now out.old }
-{
-    if out.len() < text.len() {
-        return before.refused(8);
-    }
-    Wrote {
-        refusal: 0,
-        dump: after,
-        written: texts::put(out, 0, text),
+        Ok(Wrote {
+            dump: Dump { time, values },
+            written: spans::copy(moment, out),
+        })
     }
 }
 
 // Puts the head of a dump.
-fn put_head(line: &mut [u8], values: [bool; WIRES]) -> usize
-    requires { head_length ≤ length line.old }
-    ensures { (result ≡ head_length) × Put line.old 0 (head_text values) line.new result }
+fn put_head(line: &mut Line, values: [bool; WIRES])
+    ensures { PutsIfRoom (head_text values) line.old line.new }
 {
-    let opened = put_opening(line);
-    let valued = put_values(line, opened, values);
-    texts::put(line, valued, &closing())
+    put_opening(line);
+    put_values(line, values);
+    line.put(&closing());
 }
 
 // Puts what every dump begins with.
-fn put_opening(line: &mut [u8]) -> usize
-    requires { opening_length ≤ length line.old }
-    ensures { Put line.old 0 opening_text line.new result }
+fn put_opening(line: &mut Line)
+    ensures { PutsIfRoom opening_text line.old line.new }
 {
-    let begun = texts::put(
-        line,
-        0,
+    line.put(
         b"$timescale 1 ms $end\n\
 $scope module rig $end\n",
     );
-    let declared = put_declarations(line, begun);
-    texts::put(
-        line,
-        declared,
+    put_declarations(line);
+    line.put(
         b"$upscope $end\n\
 $enddefinitions $end\n\
 #0\n\
 $dumpvars\n",
-    )
+    );
 }
 
 // Puts the declarations of all wires.
-fn put_declarations(line: &mut [u8], at: usize) -> usize
-    requires { at + length (declarations first_code wire_names) ≤ length line.old }
-    ensures { Put line.old at (declarations first_code wire_names) line.new result }
+fn put_declarations(line: &mut Line)
+    ensures { PutsIfRoom (declarations first_code wire_names) line.old line.new }
 {
-    let mut next = at;
-    let mut i = 0;
-    while i < WIRES {
-        next = put_declaration(line, next, i);
-        i += 1;
+    for wire in 0..WIRES {
+        put_declaration(line, wire);
     }
-    next
 }
 
 // Puts the declaration of a wire.
-fn put_declaration(line: &mut [u8], at: usize, wire: usize) -> usize
-    requires { (wire < wires) × (at + length (declaration (first_code + wire) (entry wire_names wire)) ≤ length line.old) }
-    ensures { Put line.old at (declaration (first_code + wire) (entry wire_names wire)) line.new result }
+fn put_declaration(line: &mut Line, wire: usize)
+    requires { wire < wires }
+    ensures { PutsIfRoom (declaration (first_code + wire) (entry wire_names wire)) line.old line.new }
 {
-    let begun = texts::put(line, at, b"$var wire 1 ");
-    let code = [FIRST + (wire as u8), b' '];
-    let coded = texts::put(line, begun, &code);
-    let named = put_name(line, coded, wire);
-    texts::put(line, named, b" $end\n")
+    line.put(b"$var wire 1 ");
+    line.put(&[FIRST + (wire as u8), b' ']);
+    put_name(line, wire);
+    line.put(b" $end\n");
 }
 
 // Puts the name of a wire.
-fn put_name(line: &mut [u8], at: usize, wire: usize) -> usize
-    ensures { (result, line.new) ≡ put_of line.old at (entry wire_names wire) }
+#[tactic(auto, using(crate::proofs::Lines::wire_name))]
+fn put_name(line: &mut Line, wire: usize)
+    ensures { Puts (entry wire_names wire) line.old line.new }
 {
     if wire < ORDERS {
-        return names::put_order(line, at, wire);
+        return line.put(Kind::Order.word(wire));
     }
     if wire < ORDERS + LAMPS {
-        return names::put_lamp(line, at, wire - ORDERS);
+        return line.put(Kind::Lamp.word(wire - ORDERS));
     }
-    names::put_sensor(line, at, wire - (ORDERS + LAMPS))
+    line.put(Kind::Sensor.word(wire - (ORDERS + LAMPS)));
 }
 
 // Puts the values of all wires.
-fn put_values(line: &mut [u8], at: usize, values: [bool; WIRES]) -> usize
-    requires { at + 3 * wires ≤ length line.old }
-    ensures { Put line.old at (value_lines first_code values) line.new result }
+fn put_values(line: &mut Line, values: [bool; WIRES])
+    ensures { PutsIfRoom (value_lines first_code values) line.old line.new }
 {
-    let mut next = at;
-    let mut i = 0;
-    while i < WIRES {
-        next = put_value(line, next, FIRST + (i as u8), values[i]);
-        i += 1;
+    for (i, &value) in values.iter().enumerate() {
+        put_value(line, FIRST + (i as u8), value);
     }
-    next
 }
 
 // Puts the line of a wire's value.
-fn put_value(line: &mut [u8], at: usize, code: u8, value: bool) -> usize
-    requires { at + 3 ≤ length line.old }
-    ensures { Put line.old at (value_line code value) line.new result }
+fn put_value(line: &mut Line, code: u8, value: bool)
+    ensures { PutsIfRoom (value_line code value) line.old line.new }
 {
-    let piece = [texts::on_off(value), code, b'\n'];
-    texts::put(line, at, &piece)
+    line.put(&[texts::on_off(value), code, b'\n']);
 }
 
 // Puts a moment: its time and what changes at it, or nothing where nothing changes.
-fn put_moment(line: &mut [u8], time: u64, olds: [bool; WIRES], news: [bool; WIRES]) -> usize
-    requires { moment_room ≤ length line.old }
-    ensures { (result ≤ moment_room) × (take result line.new ≡ moment_text olds (record { time = time; values = news })) }
+fn put_moment(line: &mut Line, time: u64, olds: [bool; WIRES], news: [bool; WIRES])
+    ensures { PutsIfRoom (moment_text olds (record { time = time; values = news })) line.old line.new }
 {
-    if !some_change(olds, news) {
-        return 0;
+    if olds == news {
+        return;
     }
-    let timed = put_time(line, time);
-    put_changes(line, timed, olds, news)
-}
-
-// Whether some wire changes.
-fn some_change(olds: [bool; WIRES], news: [bool; WIRES]) -> bool
-    ensures { result ≡ some_differ olds news }
-{
-    let mut some = false;
-    let mut i = 0;
-    while i < WIRES {
-        some = some | (olds[i] != news[i]);
-        i += 1;
-    }
-    some
+    put_time(line, time);
+    put_changes(line, olds, news);
 }
 
 // Puts the line of a time.
-fn put_time(line: &mut [u8], time: u64) -> usize
-    requires { time_room ≤ length line.old }
-    ensures { (result ≤ time_room) × Put line.old 0 (time_line time) line.new result }
+fn put_time(line: &mut Line, time: u64)
+    ensures { PutsIfRoom (time_line time) line.old line.new }
 {
-    let marked = texts::put(line, 0, b"#");
-    let timed = texts::put_number(line, marked, time);
-    texts::put(line, timed, b"\n")
+    line.put(b"#");
+    line.put_number(time);
+    line.put(b"\n");
 }
 
-// Puts the wires that change.
-fn put_changes(line: &mut [u8], at: usize, olds: [bool; WIRES], news: [bool; WIRES]) -> usize
-    requires { at + 3 * wires ≤ length line.old }
-    ensures { Put line.old at (changes_from first_code olds news) line.new result }
+// Puts the wires that change. (Two arrays by one place, which a wire's code goes by too: a zip with its places would be no plainer.)
+fn put_changes(line: &mut Line, olds: [bool; WIRES], news: [bool; WIRES])
+    ensures { PutsIfRoom (changes_from first_code olds news) line.old line.new }
 {
-    let mut next = at;
-    let mut i = 0;
-    while i < WIRES {
-        next = put_change(line, next, FIRST + (i as u8), olds[i], news[i]);
-        i += 1;
+    for i in 0..WIRES {
+        put_change(line, FIRST + (i as u8), olds[i], news[i]);
     }
-    next
 }
 
 // Puts the line of a wire that changes; one that does not change has none.
-fn put_change(line: &mut [u8], at: usize, code: u8, old: bool, new: bool) -> usize
-    requires { at + 3 ≤ length line.old }
-    ensures { Put line.old at (change_line code old new) line.new result }
+#[tactic(auto, using(crate::proofs::Lines::wire_change))]
+fn put_change(line: &mut Line, code: u8, old: bool, new: bool)
+    ensures { PutsIfRoom (change_line code old new) line.old line.new }
 {
-    if old == new {
-        return at;
+    if old != new {
+        put_value(line, code, new);
     }
-    put_value(line, at, code, new)
 }

@@ -16,11 +16,11 @@ use Rattle.dump.specs.declared.Dump.{Dump}
 use Rattle.dump.specs.Dumps.{Rising, dump_of}
 use Rattle.dump.specs.Writes.{starts_with}
 use Rattle.dumping.specs.declared.Waves.{Waves}
-use Rattle.dumping.specs.declared.Took.{Took}
+use Rattle.dumping.specs.Answers.{Took}
 use Rattle.dumping.specs.Moments.{has_row0, StartWith, moments_from, waves_from, waves_of}
-use Rattle.dumping.specs.Parts.{given, from_rows, begun_from, new_waves, room, finish_of, answer_of, fill_of, written_in_all}
+use Rattle.dumping.specs.Parts.{given, nothing_told, from_rows, begun_from, new_waves, room, finish_of, answer_of, fill_of, written_in_all}
 use Rattle.dumping.proofs.RowZero.{answered_exactly}
-use Rattle.dumping.proofs.Whole.{nothing_told, RiseIf, from_header}
+use Rattle.dumping.proofs.Whole.{RiseIf, from_header}
 
 -- ---- The moments of a trace
 

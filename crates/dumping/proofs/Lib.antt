@@ -1,13 +1,10 @@
-pub mod Filling
 pub mod Law
-pub mod Lengths
+pub mod Telling
 pub mod Once
 pub mod ReadBack
 pub mod Restarts
 pub mod RowZero
 pub mod Steps
-pub mod Taking
-pub mod Telling
 pub mod Turns
 pub mod Whole
 pub mod Worked

@@ -1,10 +1,10 @@
 -- The stamp that a controller bears before a run is not used, for row 0 gives the start stamp: the dump of a lesson that goes on is the same
 -- from a controller at any stamp.
 -- Assumes nothing.
+use Rattle.std.specs.Prelude.{Some}
 use Rattle.std.proofs.Common.{◌≡◌, ℕ, List, [], ◌∷◌, ◌++◌, sym, refl, ap, ◌∙◌}
 use Rattle.common.specs.Answers.{Answer as RowAnswer, gives, refuses}
 use Rattle.lines.specs.Rows.{rows_of}
-use Rattle.trace.specs.declared.Due.TheVariants.{Label}
 use Rattle.trace.specs.Rows.{read_row}
 use Rattle.controller.specs.declared.State.{State}
 use Rattle.controller.specs.Start.{started_at}
@@ -58,18 +58,18 @@ module _ (s : State) (stamp : ℕ) where
 
   -- Where row 0 is due: it gives the start stamp in both.
   row_0 : (row : List ℕ) (rows : List (List ℕ)) (answer : RowAnswer (ℕ × ℕ)) (sample : List ℕ)
-      → read_row row (Label 0) no_sample ≡ (answer, sample)
-      → Same (Rows (Label 0)) (row ∷ rows)
+      → read_row row (Some 0) no_sample ≡ (answer, sample)
+      → Same (Rows (Some 0)) (row ∷ rows)
   unfolding started_at row_of trace_row shown_row adds
   row_0 row rows (gives head) sample e =
-      one_row (Rows (Label 0)) row rows _ _ _ (row_0_starts (started_at stamp s) row head.0 head.1 sample e)
+      one_row (Rows (Some 0)) row rows _ _ _ (row_0_starts (started_at stamp s) row head.0 head.1 sample e)
       (row_0_starts s row head.0 head.1 sample e) refl refl refl
-  row_0 row rows (refuses n) sample e = ends (Rows (Label 0)) row rows 2 n (rw e) (rw e)
+  row_0 row rows (refuses n) sample e = ends (Rows (Some 0)) row rows 2 n (rw e) (rw e)
 
-  from_row_0 : (rows : List (List ℕ)) → Same (Rows (Label 0)) rows
+  from_row_0 : (rows : List (List ℕ)) → Same (Rows (Some 0)) rows
   unfolding moments_after
   from_row_0 [] = refl
-  from_row_0 (row ∷ rows) = row_0 row rows (read_row row (Label 0) no_sample).0 (read_row row (Label 0) no_sample).1 refl
+  from_row_0 (row ∷ rows) = row_0 row rows (read_row row (Some 0) no_sample).0 (read_row row (Some 0) no_sample).1 refl
 
   -- Where the header is due.
   header : (row : List ℕ) (rows : List (List ℕ)) → First row → Same Header (row ∷ rows)

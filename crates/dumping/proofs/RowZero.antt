@@ -1,10 +1,10 @@
 -- A reading has read row 0 exactly if the trace has one, whatever the controller that it starts from.
 -- Assumes nothing.
+use Rattle.std.specs.Prelude.{Some}
 use Rattle.std.proofs.Common.{◌≡◌, ℕ, Bool, true, false, ltb, List, [], ◌∷◌, length, sym, refl, ◌∙◌, subst}
 use Rattle.common.specs.Answers.{Answer, gives, refuses}
 use Rattle.lines.specs.Rows.{rows_of}
 use Rattle.lines.proofs.Steps.{either}
-use Rattle.trace.specs.declared.Due.TheVariants.{Label}
 use Rattle.trace.specs.Rows.{longest_row, read_row}
 use Rattle.trace.specs.Header.{header_text, same_text}
 use Rattle.trace.proofs.Laws.{the_header_is_known, what_is_known_is_the_header}
@@ -34,9 +34,9 @@ ended reading row rows line refusal state e =
 
 -- Where row 0 is due.
 abbrev due_row0 : State → Reading
-due_row0 state = record { phase = Rows (Label 0); state = state }
+due_row0 state = record { phase = Rows (Some 0); state = state }
 
-by_answer : (state : State) (row : List ℕ) (rows : List (List ℕ)) (answer : Answer (ℕ × ℕ)) → (read_row row (Label 0) no_sample).0 ≡ answer
+by_answer : (state : State) (row : List ℕ) (rows : List (List ℕ)) (answer : Answer (ℕ × ℕ)) → (read_row row (Some 0) no_sample).0 ≡ answer
     → some_answered (due_row0 state) (row ∷ rows) ≡ is_taken answer
 unfolding some_answered row_of trace_row shown_row
 by_answer state row rows (gives head) e = rw e

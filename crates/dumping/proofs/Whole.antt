@@ -1,15 +1,14 @@
 -- What is written from a reading on is the dump of the moments to come, and their times rise: before row 0 the whole dump, and from
 -- row 0 on what follows the moments so far. By induction over the rows.
 -- Assumes nothing.
+use Rattle.std.specs.Prelude.{Some}
 use Rattle.std.proofs.Common.{◌≡◌, ℕ, Bool, true, false, List, [], ◌∷◌, ◌++◌, refl, ap}
-use Rattle.trace.specs.declared.Due.TheVariants.{Label}
 use Rattle.controller.specs.declared.State.{State}
 use Rattle.reading.specs.declared.Phase.{Phase}
 use Rattle.reading.specs.declared.Phase.TheVariants.{Header, Rows, Ended}
 use Rattle.reading.specs.declared.Reading.{Reading}
 use Rattle.reading.specs.Rows.{ends_at, row_of, end_of, read_from}
 use Rattle.reading.specs.Whole.{is_answered, some_answered}
-use Rattle.reading.specs.declared.Came.TheVariants.{Nothing}
 use Rattle.reading.specs.Runs.{told_of, Outcome, in_rows}
 use Rattle.reading.specs.Ends.{Silent}
 use Rattle.reading.proofs.ByParts as by
@@ -18,7 +17,7 @@ use Rattle.dump.specs.declared.Dump.{Dump}
 use Rattle.dump.specs.Dumps.{Moment, RisesFrom, Rising, head_text, moment_text, later_text, dump_of}
 use Rattle.dump.specs.Writes.{starts_with}
 use Rattle.dumping.specs.Moments.{wires_of, adds, time_after, moments_after, StartWith}
-use Rattle.dumping.specs.Parts.{Given, given, from_rows}
+use Rattle.dumping.specs.Parts.{Given, given, nothing_told, from_rows}
 use Rattle.dumping.proofs.RowZero.{none_answered}
 use Rattle.dumping.proofs.Turns.{
   Quiet,
@@ -37,11 +36,6 @@ use Rattle.dumping.proofs.Turns.{
 use Rattle.dumping.proofs.Turns.Turn.{stays, moves}
 use Rattle.dumping.proofs.Turns.FirstTurn.{ends, starts}
 use Rattle.dumping.proofs.Turns.HeaderTurn.{ends as fails, opens}
-
--- Of what comes to nothing nothing is written.
-pub nothing_told : (dump : Dump) (before after : State) → given dump before Nothing after ≡ (dump, [])
-unfolding given
-nothing_told dump before after = refl
 
 -- ---- One row more
 
@@ -177,11 +171,11 @@ started_dumped reading dump row rows s =
     }
 
 -- Where row 0 is due.
-from_row_0 : (state : State) (dump : Dump) (rows : List (List ℕ)) → Dumped state (record { phase = Rows (Label 0); state = state }) dump rows
+from_row_0 : (state : State) (dump : Dump) (rows : List (List ℕ)) → Dumped state (record { phase = Rows (Some 0); state = state }) dump rows
 from_row_0 state dump [] = nothing_dumped state _ dump
 from_row_0 state dump (row ∷ rows) = by_turn (first_turn dump state row) where
   reading : Reading
-  reading = record { phase = Rows (Label 0); state = state }
+  reading = record { phase = Rows (Some 0); state = state }
 
   by_turn : FirstTurn dump reading (row_of reading row) → Dumped state reading dump (row ∷ rows)
   by_turn (ends line refusal e) = ended_dumped state reading dump row rows line refusal state e

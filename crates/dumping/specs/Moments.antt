@@ -2,10 +2,9 @@
 -- trace come to what they come to for `replay` (`row_of` of the crate `reading`). Request K3: so also where a lesson goes on from a
 -- controller that was handed over; its dump begins at `#0` with what that controller shows.
 -- Assumes nothing.
-use Rattle.std.specs.Prelude.{◌≡◌, ℕ, ◌+◌, Bool, true, false, cond, ◌&&◌, List, [], ◌∷◌, ◌++◌, ◌==◌}
+use Rattle.std.specs.Prelude.{◌≡◌, ℕ, ◌+◌, Bool, true, false, cond, ◌&&◌, List, [], ◌∷◌, ◌++◌, ◌==◌, Some}
 use Rattle.common.specs.Answers.{Answer, gives, refuses}
 use Rattle.lines.specs.Rows.{rows_of}
-use Rattle.trace.specs.declared.Due.TheVariants.{Label}
 use Rattle.trace.specs.Rows.{read_row}
 use Rattle.trace.specs.Header.{header_text, same_text}
 use Rattle.controller.specs.declared.State.{State}
@@ -80,7 +79,7 @@ is_taken (refuses n) = false
 abbrev pub start_with_row0 : List (List ℕ) → Bool
 start_with_row0 [] = false
 start_with_row0 (header ∷ []) = false
-start_with_row0 (header ∷ row ∷ rows) = same_text header header_text && is_taken (read_row row (Label 0) no_sample).0
+start_with_row0 (header ∷ row ∷ rows) = same_text header header_text && is_taken (read_row row (Some 0) no_sample).0
 
 abbrev pub has_row0 : List ℕ → Bool
 has_row0 input = start_with_row0 (rows_of input)

@@ -1,7 +1,7 @@
 -- The same by parts, one row a call or as many as there is room for: what is written of a row, and what a call gives, with the line buffer and
 -- the output buffer that are lent.
 -- Assumes nothing.
-use Rattle.std.specs.Prelude.{ℕ, ◌+◌, Bool, false, cond, List, [], ◌++◌, length, drop, replicate, ◌==◌}
+use Rattle.std.specs.Prelude.{refl, ◌≡◌, ℕ, ◌+◌, Bool, false, cond, List, [], replicate, ◌==◌}
 use Rattle.controller.specs.declared.State.{State}
 use Rattle.controller.specs.Start.{fresh_of}
 use Rattle.controller.specs.Stages.{elapsed_of}
@@ -10,14 +10,13 @@ use Rattle.reading.specs.declared.Came.{Came}
 use Rattle.reading.specs.declared.Came.TheVariants.{Nothing, Answered, Refused}
 use Rattle.reading.specs.Parts.{run_from}
 use Rattle.reading.specs.Runs.{Teller, in_rows, Answer, take_by, finish_by, in_all}
-use Rattle.reading.specs.Fills.{turn_from, fill_by}
+use Rattle.reading.specs.Fills.{fill_by}
 use Rattle.dump.specs.declared.Dump.{Dump}
 use Rattle.dump.specs.Wires.{wires}
 use Rattle.dump.specs.Dumps.{head_text, head_length}
 use Rattle.dump.specs.Writes.{starts_with, text_after, no_time}
 use Rattle.dumping.specs.declared.Waves.{Waves}
-use Rattle.dumping.specs.declared.Told.{Told}
-use Rattle.dumping.specs.declared.Took.{Took}
+use Rattle.dumping.specs.Answers.{Took}
 use Rattle.dumping.specs.Moments.{wires_of}
 
 -- ---- What is written of a row
@@ -45,6 +44,11 @@ given_by (Refused line refusal) dump before after = (dump, [])
 unfoldable pub given : Teller Dump
 given dump before came after = given_by came dump before.stamp after
 
+-- Of what comes to nothing nothing is written.
+pub nothing_told : (dump : Dump) (before after : State) → given dump before Nothing after ≡ (dump, [])
+unfolding given
+nothing_told dump before after = refl
+
 -- The rows one after the other, and the end of the input.
 unfoldable pub from_rows : Reading → Dump → List (List ℕ) → List ℕ
 from_rows reading dump rows = (in_rows given dump reading rows).0
@@ -59,10 +63,6 @@ begun_from state = record { run = run_from state; dump = starts_with (replicate 
 -- A lesson that was not handed over starts from a fresh controller.
 unfoldable pub new_waves : Waves
 new_waves = begun_from (fresh_of 0)
-
--- A text in front of the output buffer: the dump after it and how many bytes were written, and the buffer.
-unfoldable pub in_front : Given → List ℕ → Told × List ℕ
-in_front g out = (record { dump = g.0; written = length g.1 }, g.1 ++ drop (length g.1) out)
 
 -- The head of a dump has 1,078 bytes, and a moment at most 100.
 abbrev pub room : ℕ
@@ -103,10 +103,6 @@ answer_of took line out = (
   line,
   out,
 )
-
--- One row more.
-abbrev pub turn_of : Took → List ℕ → List ℕ → List ℕ → Took × List ℕ × List ℕ
-turn_of took part line out = took_of (turn_from given room part (answer_of took line out))
 
 -- The part row by row, as far as there is room.
 unfoldable pub fill_of : Waves → List ℕ → List ℕ → List ℕ → Took × List ℕ × List ℕ

@@ -8,7 +8,7 @@ use mathlib.Core.Path.{◌≡◌, sym, ap, subst, ◌∙◌}
 use borrow.Author.Tests.{eq-eqb}
 use lib.Dec.{T}
 use Rattle.controller.specs.declared.State.{State}
-use Rattle.controller.specs.declared.Answer.{Answer}
+use Rattle.controller.specs.Answers.{Answer}
 use Rattle.controller.specs.Lamps.{lights_of, shown_of}
 use Rattle.controller.specs.Steps.{limit}
 use Rattle.controller.specs.Samples.{Row, after}

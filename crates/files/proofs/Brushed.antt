@@ -20,7 +20,7 @@ use Rattle.voter.proofs.Kept.{no_odd_agrees}
 use Rattle.voter.proofs.InARow.{all_valid_exactly}
 use Rattle.controller.specs.declared.State.{State}
 use Rattle.controller.specs.declared.Core.{Core}
-use Rattle.controller.specs.declared.Answer.{Answer}
+use Rattle.controller.specs.Answers.{Answer}
 use Rattle.controller.specs.Votes.{handle, sensor, three_from, some_invalid, sight_of, aimed, on_ground, votes_at, all_voted}
 use Rattle.controller.specs.Stages.{core_step, elapsed_of, turned, in_force, accepted}
 use Rattle.controller.specs.Steps.{refusal_at, refusal_of, step_at, step_of}

@@ -1,6 +1,7 @@
 -- The dump of a lesson that is brushed, every bounce forgiven, is that of the clean one, byte for byte (request K5); and so of all that is
 -- written of it from a fresh start.
 -- Assumes nothing.
+use Rattle.std.specs.Prelude.{Option, Some}
 use Prim.Native.Nat.{ℕ, suc, ◌+◌, ◌≤◌, ◌<◌}
 use native.Mathlib.Omega.{arith}
 use native.Mathlib.Nat.{add-zero}
@@ -10,13 +11,11 @@ use mathlib.Core.Path.{◌≡◌, refl, sym, ap, subst, ◌∙◌}
 use borrow.Author.Tests.{ne_eqb}
 use lib.Dec.{eqb}
 use lib.ListN.{length}
-use Rattle.trace.specs.declared.Due.{Due}
-use Rattle.trace.specs.declared.Due.TheVariants.{Label}
 use Rattle.trace.specs.Numbers.{greatest}
 use Rattle.trace.specs.Header.{header_text as trace_header}
 use Rattle.trace.specs.Written.{row_text as trace_row_text}
 use Rattle.controller.specs.declared.State.{State}
-use Rattle.controller.specs.declared.Answer.{Answer}
+use Rattle.controller.specs.Answers.{Answer}
 use Rattle.controller.specs.Start.{fresh_of, started_at}
 use Rattle.controller.specs.Stages.{elapsed_of}
 use Rattle.controller.specs.Steps.{step_of}
@@ -91,10 +90,10 @@ sample_step n time s r rows later fits bears =
     let answer = step_of s r.0 r.1 in
     let ms = adds_at time s.stamp answer in
     rw (is_due n fits)
-    (moments_step time (read_at (Rows (Label n)) s) (trace_row_text n r.0 r.1) rows (shown_row (Label n) n answer) ms
-    (row_read n s r fits bears ∙ ap (shown_row (Label n) n) (a_step n s r later))
+    (moments_step time (read_at (Rows (Some n)) s) (trace_row_text n r.0 r.1) rows (shown_row (Some n) n answer) ms
+    (row_read n s r fits bears ∙ ap (shown_row (Some n) n) (a_step n s r later))
     (rw (ne_eqb n 0 (λ e. omega arith)))
-    ∙ ap (λ (d : Due). ms ++ moments_after (time_after time ms) (read_at (Rows d) answer.state) rows) (next_due_lem n fits))
+    ∙ ap (λ (d : Option ℕ). ms ++ moments_after (time_after time ms) (read_at (Rows d) answer.state) rows) (next_due_lem n fits))
 
 -- What follows the samples adds nothing.
 ending_adds_none : (n time : ℕ) (s : State) (others : List (List ℕ)) (ending : List ℕ) → n ≤ greatest + 1 → Ending n others ending
@@ -151,7 +150,7 @@ moments_of : (s : State) (start : Row) (rows : List Row) (rest : List (List ℕ)
 unfolding rows_bearing shown_row adds answer_to
 moments_of s start rows rest bears =
     moments_step 0 (read_from s) trace_header (trace_row_text 0 start.0 start.1 ∷ (rows_bearing 1 rows ++ rest)) _ [] (behind_the_header s) refl
-    ∙ moments_step 0 (read_at (Rows (Label 0)) s) (trace_row_text 0 start.0 start.1) (rows_bearing 1 rows ++ rest) _
+    ∙ moments_step 0 (read_at (Rows (Some 0)) s) (trace_row_text 0 start.0 start.1) (rows_bearing 1 rows ++ rest) _
     (at 0 (started_at start.0 s) ∷ []) (row_read 0 s start (omega arith) bears) refl
 
 -- Two inputs that bear a lesson and the same lesson brushed, with any row 0 of the same stamp, whatever they end in.

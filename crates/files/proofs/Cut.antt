@@ -8,7 +8,7 @@ use mathlib.Core.Path.{◌≡◌, refl, sym, ap, ◌∙◌}
 use lib.ListN.{length, length-append, length-map}
 use Rattle.trace.specs.Numbers.{greatest}
 use Rattle.controller.specs.declared.State.{State}
-use Rattle.controller.specs.declared.Answer.{Answer}
+use Rattle.controller.specs.Answers.{Answer}
 use Rattle.controller.specs.Start.{started_at}
 use Rattle.controller.specs.Steps.{step_of}
 use Rattle.controller.specs.Lamps.{lights_of, shown_of}

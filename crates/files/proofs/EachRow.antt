@@ -1,6 +1,7 @@
 -- What holds of each row of a file, from any controller and whatever the bytes of the input are: its number tells its place, its code is one
 -- of document 01's, and what it bears is the controller's own answer.
 -- Assumes nothing.
+use Rattle.std.specs.Prelude.{Option, Some}
 use Prim.Native.Nat.{ℕ, ◌+◌, ◌≤◌}
 use native.Mathlib.Omega.{arith}
 use mathlib.Core.Bool.{cond}
@@ -13,8 +14,6 @@ use lib.ListN.{length}
 use Rattle.common.specs.Answers.{Answer as Reads, gives, refuses}
 use Rattle.lines.specs.Rows.{rows_of}
 use Rattle.lines.proofs.Steps.{either}
-use Rattle.trace.specs.declared.Due.{Due}
-use Rattle.trace.specs.declared.Due.TheVariants.{Label}
 use Rattle.trace.specs.Numbers.{greatest}
 use Rattle.trace.specs.Rows.{longest_row, read_row}
 use Rattle.trace.specs.Header.{header_text as trace_header, same_text}
@@ -41,25 +40,25 @@ use Rattle.files.proofs.Told.{each}
 pub by_header : (P : Heard → Type 0) (state : State) (row : List ℕ)
     → P (ends_at 1 6 state)
     → P (ends_at 1 5 state)
-    → P (untold (record { phase = Rows (Label 0); state = state }))
+    → P (untold (record { phase = Rows (Some 0); state = state }))
     → P (header_row state row)
 unfolding header_row
 by_header P state row long other header =
-    let opened = untold (record { phase = Rows (Label 0); state = state }) in
+    let opened = untold (record { phase = Rows (Some 0); state = state }) in
     let is_header = same_text row trace_header in
     let short = cond is_header opened (ends_at 1 5 state) in
     whichever P (ltb longest_row (length row)) (ends_at 1 6 state) short long (whichever P is_header opened (ends_at 1 5 state) header other)
 
 -- A row behind it: one of the form whose label is due, or one that ends the reading.
-pub data Behind (due : Due) (state : State) (row : List ℕ) : Type 0 where
+pub data Behind (due : Option ℕ) (state : State) (row : List ℕ) : Type 0 where
   reads : (label stamp : ℕ) (sample : List ℕ)
       → InForm row label stamp sample
-      → due ≡ Label label
+      → due ≡ Some label
       → trace_row due state row ≡ shown_row due label (answer_to state label stamp sample)
       → Behind due state row
   ends : (refusal : ℕ) → FiveSixSeven (refuses refusal) → trace_row due state row ≡ ends_at (line_of due) refusal state → Behind due state row
 
-pub behind : (due : Due) (state : State) (row : List ℕ) → Behind due state row
+pub behind : (due : Option ℕ) (state : State) (row : List ℕ) → Behind due state row
 unfolding trace_row
 behind due state row = by (read_row row due no_sample).0 (read_row row due no_sample).1 refl where
   by : (answer : Reads (ℕ × ℕ)) (sample : List ℕ) → read_row row due no_sample ≡ (answer, sample) → Behind due state row
@@ -107,7 +106,7 @@ OnLine line (Ended at refusal) = Unit {0}
 abbrev Goes : ℕ → List ℕ → Reading → Heard → Type 0
 Goes line row reading heard = Right (told_of line row reading heard) × OnLine (line + 1) heard.reading.phase
 
-pub next_line : (line label : ℕ) → label ≤ greatest → line ≡ label + 2 → line + 1 ≡ line_of (next_due (Label label))
+pub next_line : (line label : ℕ) → label ≤ greatest → line ≡ label + 2 → line + 1 ≡ line_of (next_due (Some label))
 next_line line label fits e =
     either (ltb label greatest) (λ t. rw t (omega arith)) (λ t. rw t (omega (arith, ltb-false label greatest t)))
 
@@ -135,7 +134,7 @@ row_right line row (Rows due) state e = by (behind due state row) where
           coded = answer_coded state label stamp row sample form;
           answered = record { stamp = stamp; sample = sample; in_form = form; own = own_answer state label stamp sample };
         },
-        subst (λ (d : Due). line + 1 ≡ line_of (next_due d)) (sym was) (next_line line label form.label_fits on),
+        subst (λ (d : Option ℕ). line + 1 ≡ line_of (next_due d)) (sym was) (next_line line label form.label_fits on),
       )
   by (ends refusal code here) = rw here (ends_right line row (read_at (Rows due) state) (line_of due) refusal e code)
 row_right line row (Ended at refusal) state e = (record { numbered = tt; coded = tt; answered = refl }, tt)

@@ -12,7 +12,7 @@ use lib.Seq.{take_at}
 use Rattle.lines.specs.Rows.{rows_of}
 use Rattle.lines.proofs.Steps.{either}
 use Rattle.controller.specs.declared.State.{State}
-use Rattle.controller.specs.declared.Answer.{Answer}
+use Rattle.controller.specs.Answers.{Answer}
 use Rattle.controller.specs.Start.{started_at}
 use Rattle.image.specs.Images.{size, image_of, save_of, load_of}
 use Rattle.image.specs.Conditions.{Taken}

@@ -9,7 +9,7 @@ use Rattle.lines.specs.Rows.{rows_of}
 use Rattle.sequence.specs.declared.Gears.TheVariants.{Extended}
 use Rattle.controller.specs.declared.Core.{Core}
 use Rattle.controller.specs.declared.State.{State}
-use Rattle.controller.specs.declared.Answer.{Answer}
+use Rattle.controller.specs.Answers.{Answer}
 use Rattle.controller.specs.Start.{started_at}
 use Rattle.controller.specs.Steps.{step_of}
 use Rattle.controller.specs.Shows.{gears_of}

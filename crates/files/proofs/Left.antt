@@ -1,5 +1,6 @@
 -- What a trace leaves is of its last row that was answered: the line that is named with an image, and the state in it.
 -- Assumes nothing.
+use Rattle.std.specs.Prelude.{Option as Due, Some, None}
 use Prim.Native.Nat.{ℕ, ◌+◌, ◌≤◌, ◌<◌}
 use native.Mathlib.Omega.{arith}
 use mathlib.Core.Bool.{Bool, true, false, cond}
@@ -8,8 +9,6 @@ use mathlib.Core.Option.{Option, none, some, or_else}
 use mathlib.Core.Path.{◌≡◌, refl, sym, ap, ◌∙◌}
 use borrow.Author.Tests.{lt-ltb}
 use Rattle.lines.specs.Rows.{rows_of}
-use Rattle.trace.specs.declared.Due.{Due}
-use Rattle.trace.specs.declared.Due.TheVariants.{Label, Nothing as NoLabel}
 use Rattle.controller.specs.declared.State.{State}
 use Rattle.reading.specs.declared.Phase.{Phase}
 use Rattle.reading.specs.declared.Phase.TheVariants.{Header, Rows, Ended}
@@ -34,9 +33,9 @@ record OfIt (line : ℕ) (reading : Reading) (heard : Heard) : Type 0 where
 line_back : (line next : ℕ) → 2 ≤ line → line + 1 ≡ next → line_before next ≡ line
 line_back line next row e = let later : 2 < next = omega (arith, e) in rw (lt-ltb 2 next later) (omega (arith, e))
 
-from_2 : (due : Due) → 2 ≤ line_of due
-from_2 (Label n) = omega arith
-from_2 NoLabel = omega arith
+from_2 : (due : Due ℕ) → 2 ≤ line_of due
+from_2 (Some n) = omega arith
+from_2 None = omega arith
 
 of_row : (line : ℕ) (row : List ℕ) (phase : Phase) (state : State) → OnLine line phase
     → OfIt line (read_at phase state) (row_of (read_at phase state) row)
@@ -50,7 +49,7 @@ of_row line row (Rows due) state on = by (behind due state row) where
   by : Behind due state row → OfIt line (read_at (Rows due) state) (trace_row due state row)
   by (reads label stamp sample form was here) =
       let next : line + 1 ≡ line_of (next_due due) =
-      next_line line label form.label_fits (on ∙ ap line_of was) ∙ ap (λ (d : Due). line_of (next_due d)) (sym was) in
+      next_line line label form.label_fits (on ∙ ap line_of was) ∙ ap (λ (d : Due ℕ). line_of (next_due d)) (sym was) in
       rw here (record { of_line = line_back line (line_of (next_due due)) (omega (arith, on, from_2 due)) next; of_state = refl })
   by (ends refusal code here) = rw here (record { of_line = refl; of_state = refl })
 of_row line row (Ended at refusal) state on = record { of_line = refl; of_state = refl }

@@ -1,13 +1,12 @@
 -- One row for each row of the input: behind the header each row is answered, up to the end of the input or to the refusal that ends the
 -- reading, and nothing follows that.
 -- Assumes nothing.
+use Rattle.std.specs.Prelude.{Option, Some}
 use Prim.Native.Nat.{ℕ, ◌+◌}
 use mathlib.Core.List.{List, [], ◌∷◌}
 use mathlib.Core.Logic.{◌⊎◌, inl, inr}
 use mathlib.Core.Path.{◌≡◌, refl}
 use Rattle.lines.specs.Rows.{rows_of}
-use Rattle.trace.specs.declared.Due.{Due}
-use Rattle.trace.specs.declared.Due.TheVariants.{Label}
 use Rattle.controller.specs.declared.State.{State}
 use Rattle.reading.specs.declared.Phase.TheVariants.{Rows, Ended}
 use Rattle.reading.specs.declared.Reading.{Reading}
@@ -33,8 +32,8 @@ nothing_more line at refusal state [] = (refl, tt)
 nothing_more line at refusal state (row ∷ rows) = (refl, nothing_more (line + 1) at refusal state rows)
 
 -- Behind the header.
-one_row : (line : ℕ) (due : Due) (state : State) (row : List ℕ) (rows : List (List ℕ))
-    → ((due' : Due) (state' : State) → OneForEach (told_from (line + 1) (read_at (Rows due') state') rows))
+one_row : (line : ℕ) (due : Option ℕ) (state : State) (row : List ℕ) (rows : List (List ℕ))
+    → ((due' : Option ℕ) (state' : State) → OneForEach (told_from (line + 1) (read_at (Rows due') state') rows))
     → Behind due state row
     → OneForEach (from line row (read_at (Rows due) state) rows (trace_row due state row))
 unfolding shown_row ends_at
@@ -42,7 +41,7 @@ one_row line due state row rows others (reads label stamp sample form was here) 
 one_row line due state row rows others (ends refusal code here) =
     rw here (at_refusal _ _ _ refusal refl (nothing_more (line + 1) _ refusal state rows))
 
-rows_behind : (line : ℕ) (due : Due) (state : State) (rows : List (List ℕ)) → OneForEach (told_from line (read_at (Rows due) state) rows)
+rows_behind : (line : ℕ) (due : Option ℕ) (state : State) (rows : List (List ℕ)) → OneForEach (told_from line (read_at (Rows due) state) rows)
 unfolding told_from row_of end_of
 rows_behind line due state [] = at_end _ refl
 rows_behind line due state (row ∷ rows) =
@@ -61,7 +60,7 @@ whole state (row ∷ rows) =
     by_header (λ (heard : Heard). WholeFile (from 1 row (read_from state) rows heard)) state row
     (ends_there row state rows 6 (inr refl))
     (ends_there row state rows 5 (inl refl))
-    (behind_header _ _ refl (rows_behind 2 (Label 0) state rows))
+    (behind_header _ _ refl (rows_behind 2 (Some 0) state rows))
 
 pub one_row_per_row : (state : State) (input : List ℕ) → WholeFile (told state input)
 unfolding told

@@ -1,5 +1,6 @@
 -- Which refusals there are: a row that is read gets 0, 3 or 4 of the controller, and a row that is not gets 5, 6 or 7 of the reader.
 -- Assumes nothing.
+use Rattle.std.specs.Prelude.{Option, Some, None}
 use Prim.Native.Nat.{ℕ, zero, suc, ◌+◌, ◌*◌, ◌-◌}
 use mathlib.Core.Bool.{Bool, true, false, cond, ◌&&◌, ◌||◌}
 use mathlib.Core.List.{List, [], ◌∷◌}
@@ -11,8 +12,6 @@ use lib.ListN.{length, get_or}
 use Rattle.common.specs.Answers.{Answer as Reads, gives, refuses}
 use Rattle.common.specs.Decimal.{digit0}
 use Rattle.common.specs.Lists.{some}
-use Rattle.trace.specs.declared.Due.{Due}
-use Rattle.trace.specs.declared.Due.TheVariants.{Label, Nothing}
 use Rattle.trace.specs.Numbers.{is_digit, greatest, digits_from, number_of, is_bit, triple_of}
 use Rattle.trace.specs.Rows.{fields_of, joined, triples_of, Parts, parts, form_of, in_turn, kept, longest_row, read_row}
 use Rattle.trace.specs.Written.{AllBits, InForm}
@@ -79,14 +78,14 @@ abbrev pub FiveSixSeven : Reads (ℕ × ℕ) → Type 0
 FiveSixSeven (gives head) = Unit {0}
 FiveSixSeven (refuses n) = (n ≡ 5) ⊎ (n ≡ 6) ⊎ (n ≡ 7)
 
-turn_in : (form : Reads Parts) (due : Due) → Five form → FiveSixSeven (kept (in_turn form due) no_sample).0
+turn_in : (form : Reads Parts) (due : Option ℕ) → Five form → FiveSixSeven (kept (in_turn form due) no_sample).0
 unfolding in_turn
 turn_in (refuses n) due five = inl five
-turn_in (gives p) Nothing five = inr (inr refl)
-turn_in (gives p) (Label due) five =
+turn_in (gives p) None five = inr (inr refl)
+turn_in (gives p) (Some due) five =
     whichever (λ (a : Reads Parts). FiveSixSeven (kept a no_sample).0) (eqb p.label due) (gives p) (refuses 7) tt (inr (inr refl))
 
-pub row_refusals : (row : List ℕ) (due : Due) → FiveSixSeven (read_row row due no_sample).0
+pub row_refusals : (row : List ℕ) (due : Option ℕ) → FiveSixSeven (read_row row due no_sample).0
 unfolding read_row no_sample
 row_refusals row due =
     let form = form_of (fields_of row) in

@@ -9,7 +9,7 @@ use borrow.Author.Tests.{eqb-true, eqb-false}
 use lib.Dec.{eqb}
 use Rattle.lines.proofs.Steps.{either}
 use Rattle.controller.specs.declared.State.{State}
-use Rattle.controller.specs.declared.Answer.{Answer}
+use Rattle.controller.specs.Answers.{Answer}
 use Rattle.controller.specs.Stages.{elapsed_of}
 use Rattle.controller.specs.Steps.{step_of}
 use Rattle.controller.specs.Samples.{Row, after}

@@ -1,6 +1,7 @@
 -- The file of any input is the controller's own answers to the samples that it bears, up to its end or to the refusal that ends it; for a
 -- trace in form these are all.
 -- Assumes nothing.
+use Rattle.std.specs.Prelude.{Option, Some}
 use Prim.Native.Nat.{ℕ, suc, ◌+◌, ◌≤◌, ◌<◌}
 use native.Mathlib.Omega.{arith}
 use mathlib.Core.Bool.{Bool, true, false, ◌||◌}
@@ -16,8 +17,6 @@ use Rattle.common.specs.Decimal.{decimal}
 use Rattle.lines.specs.Rows.{rows_of}
 use Rattle.lines.proofs.Steps.{either}
 use Rattle.names.specs.Words.{sensor_names}
-use Rattle.trace.specs.declared.Due.{Due}
-use Rattle.trace.specs.declared.Due.TheVariants.{Label}
 use Rattle.trace.specs.Numbers.{greatest}
 use Rattle.trace.specs.Rows.{read_row}
 use Rattle.trace.specs.Header.{header_names, header_text as trace_header}
@@ -65,7 +64,7 @@ use Rattle.files.proofs.Cutting.{NoCr, NoneHasCr, clean, tested, cut_again, fiel
 -- ---- One row
 
 pub row_read : (n : ℕ) (s : State) (r : Row) → n ≤ greatest → Bearable r
-    → row_of (read_at (Rows (Label n)) s) (trace_row_text n r.0 r.1) ≡ shown_row (Label n) n (answer_to s n r.0 r.1)
+    → row_of (read_at (Rows (Some n)) s) (trace_row_text n r.0 r.1) ≡ shown_row (Some n) n (answer_to s n r.0 r.1)
 unfolding row_of trace_row no_sample
 row_read n s r fits bears =
     let form : InForm (trace_row_text n r.0 r.1) n r.0 r.1 =
@@ -77,13 +76,13 @@ unfolding answer_to
 a_step n s r later = rw (ne_eqb n 0 (λ e. omega arith))
 
 -- The label that is due behind it, and its line.
-pub next_due_lem : (n : ℕ) → n ≤ greatest → next_due (Label n) ≡ due_behind (n + 1)
+pub next_due_lem : (n : ℕ) → n ≤ greatest → next_due (Some n) ≡ due_behind (n + 1)
 next_due_lem n fits =
     either (ltb n greatest)
     (λ t. let e : n + 1 ≤ greatest = omega (arith, ltb-true n greatest t) in rw (t, le-leb (n + 1) greatest e))
     (λ t. let e : greatest < n + 1 = omega (arith, ltb-false n greatest t) in rw (t, lt-leb (n + 1) greatest e))
 
-pub is_due : (n : ℕ) → n ≤ greatest → due_behind n ≡ Label n
+pub is_due : (n : ℕ) → n ≤ greatest → due_behind n ≡ Some n
 is_due n fits = rw (le-leb n greatest fits)
 
 pub due_line : (n : ℕ) → n ≤ greatest + 1 → line_of (due_behind n) ≡ n + 2
@@ -142,16 +141,16 @@ one_more : (n : ℕ) (s : State) (r : Row) (rs : List Row) (others : List (List 
     → Read (read_at (Rows (due_behind n)) s) n (r ∷ rs) others ending
 unfolding rows_bearing labelled answers after shown_row
 one_more n s r rs others ending later fits bears more =
-    let reading = read_at (Rows (Label n)) s in
+    let reading = read_at (Rows (Some n)) s in
     let answer = step_of s r.0 r.1 in
-    let heard = shown_row (Label n) n answer in
+    let heard = shown_row (Some n) n answer in
     let row = trace_row_text n r.0 r.1 in
     let rows = rows_bearing (n + 1) rs ++ others in
-    let here : row_of reading row ≡ heard = row_read n s r fits bears ∙ ap (shown_row (Label n) n) (a_step n s r later) in
+    let here : row_of reading row ≡ heard = row_read n s r fits bears ∙ ap (shown_row (Some n) n) (a_step n s r later) in
     let text = text_by heard.came answer.state in
     let next : Read heard.reading (n + 1) rs others ending =
-    subst (λ (d : Due). Read (read_at (Rows d) answer.state) (n + 1) rs others ending) (sym (next_due_lem n fits)) more in
-    subst (λ (d : Due). Read (read_at (Rows d) s) n (r ∷ rs) others ending) (sym (is_due n fits))
+    subst (λ (d : Option ℕ). Read (read_at (Rows d) answer.state) (n + 1) rs others ending) (sym (next_due_lem n fits)) more in
+    subst (λ (d : Option ℕ). Read (read_at (Rows d) s) n (r ∷ rs) others ending) (sym (is_due n fits))
     (record {
       written =
           written_step reading row rows heard here
@@ -193,11 +192,11 @@ module _ (s : State) (first : Row) (rest : List Row) (others : List (List ℕ)) 
   abbrev row_0 : List ℕ
   row_0 = trace_row_text 0 first.0 first.1
 
-  starts_at : row_of (read_at (Rows (Label 0)) s) row_0 ≡ shown_row (Label 0) 0 (record { refusal = 0; state = start })
+  starts_at : row_of (read_at (Rows (Some 0)) s) row_0 ≡ shown_row (Some 0) 0 (record { refusal = 0; state = start })
   unfolding answer_to
   starts_at = row_read 0 s first (omega arith) can.each.0
 
-  behind_row_0 : Read (read_at (Rows (Label 1)) start) 1 rest others ending
+  behind_row_0 : Read (read_at (Rows (Some 1)) start) 1 rest others ending
   behind_row_0 =
       let on : suc (length rest) ≡ 1 + length rest = omega arith in
       rows_read 1 start rest others ending (omega arith) (omega (arith, can.labels)) can.each.1
@@ -208,15 +207,15 @@ module _ (s : State) (first : Row) (rest : List Row) (others : List (List ℕ)) 
   all_written =
       let text = row_text 0 0 (shown_of start) in
       written_step (read_from s) trace_header (row_0 ∷ rest_rows) _ (behind_the_header s)
-      ∙ written_step (read_at (Rows (Label 0)) s) row_0 rest_rows _ starts_at
+      ∙ written_step (read_at (Rows (Some 0)) s) row_0 rest_rows _ starts_at
       ∙ ap (◌++◌ text) behind_row_0.written
       ∙ sym (append_assoc text (labelled 1 (map body_of (answers start rest))) ending)
 
-  left_is : read_to (read_from s) all_rows ≡ read_to (read_at (Rows (Label 1)) start) rest_rows
+  left_is : read_to (read_from s) all_rows ≡ read_to (read_at (Rows (Some 1)) start) rest_rows
   unfolding rows_bearing shown_row
   left_is =
       left_step (read_from s) trace_header (row_0 ∷ rest_rows) _ (behind_the_header s)
-      ∙ left_step (read_at (Rows (Label 0)) s) row_0 rest_rows _ starts_at
+      ∙ left_step (read_at (Rows (Some 0)) s) row_0 rest_rows _ starts_at
 
   all_left : (read_to (read_from s) all_rows).state ≡ after start rest
   all_left = ap (λ (l : Reading). l.state) left_is ∙ behind_row_0.left
@@ -224,8 +223,8 @@ module _ (s : State) (first : Row) (rest : List Row) (others : List (List ℕ)) 
   all_started : has_started (read_to (read_from s) all_rows).phase ≡ true
   all_started =
       ap (λ (l : Reading). has_started l.phase) left_is
-      ∙ started_in_all (read_at (Rows (Label 1)) start) rest_rows
-      ∙ or_true (some_answered (read_at (Rows (Label 1)) start) rest_rows)
+      ∙ started_in_all (read_at (Rows (Some 1)) start) rest_rows
+      ∙ or_true (some_answered (read_at (Rows (Some 1)) start) rest_rows)
 
 header_alone : (s : State) (others : List (List ℕ)) (ending : List ℕ) → Ending 0 others ending
     → written_of (read_from s) (trace_header ∷ others) ≡ ending

@@ -1,6 +1,7 @@
 -- Demand 3 of a file is not empty: the run that settles at the bound is a stretch of a file of `replay`. One row earlier it is not settled,
 -- so of the rows of files the stronger form holds with no lower number.
 -- Assumes nothing.
+use Rattle.std.specs.Prelude.{Option, Some}
 use Prim.Native.Nat.{ℕ, ◌+◌, ◌≤◌, ◌<◌}
 use native.Mathlib.Omega.{arith}
 use mathlib.Core.Bool.{Bool, true, false, not}
@@ -9,8 +10,6 @@ use mathlib.Core.Path.{◌≡◌, refl, sym, ap, subst, subst⁻¹, ◌∙◌}
 use borrow.Author.Tests.{eqb-true}
 use lib.Dec.{T, leb→le}
 use lib.ListN.{length}
-use Rattle.trace.specs.declared.Due.{Due}
-use Rattle.trace.specs.declared.Due.TheVariants.{Label}
 use Rattle.trace.specs.Numbers.{greatest}
 use Rattle.trace.specs.Header.{header_text as trace_header}
 use Rattle.trace.specs.Written.{row_text as trace_row_text}
@@ -78,14 +77,14 @@ unfolding rows_bearing shown_row
 one_more n s r rs later fits bears others =
     let rows = rows_bearing (n + 1) rs in
     let answer = step_of s r.0 r.1 in
-    let heard = shown_row (Label n) n answer in
-    let here = row_read n s r fits bears.0 ∙ ap (shown_row (Label n) n) (a_step n s r later) in
+    let heard = shown_row (Some n) n answer in
+    let here = row_read n s r fits bears.0 ∙ ap (shown_row (Some n) n) (a_step n s r later) in
     let line : n + 2 + 1 ≡ n + 1 + 2 = omega arith in
     let t = told_row n s r in (
       others.0,
-      ap (λ (d : Due). told_from (n + 2) (read_at (Rows d) s) (trace_row_text n r.0 r.1 ∷ rows)) (is_due n fits)
-          ∙ told_step (n + 2) (read_at (Rows (Label n)) s) (trace_row_text n r.0 r.1) rows heard here
-          ∙ ap (λ (d : Due). t ∷ told_from (n + 2 + 1) (read_at (Rows d) (next s r)) rows) (next_due_lem n fits)
+      ap (λ (d : Option ℕ). told_from (n + 2) (read_at (Rows d) s) (trace_row_text n r.0 r.1 ∷ rows)) (is_due n fits)
+          ∙ told_step (n + 2) (read_at (Rows (Some n)) s) (trace_row_text n r.0 r.1) rows heard here
+          ∙ ap (λ (d : Option ℕ). t ∷ told_from (n + 2 + 1) (read_at (Rows d) (next s r)) rows) (next_due_lem n fits)
           ∙ ap (λ (k : ℕ). t ∷ told_from k (read_at (Rows (due_behind (n + 1))) (next s r)) rows) line
           ∙ ap (λ (ts : List Told). t ∷ ts) others.1,
     )
@@ -104,21 +103,21 @@ module _ (s : State) (zeroth first : Row) (rest : List Row) (can : InOneTrace (z
   stretch_of : Stretch s (trace_bearing (zeroth ∷ first ∷ rest)) (told_row 1 from first) (told_rows 2 (next from first) rest)
   unfolding told rows_bearing shown_row answer_to
   stretch_of =
-      let opened = untold (read_at (Rows (Label 0)) s) in
+      let opened = untold (read_at (Rows (Some 0)) s) in
       let header = told_of 1 trace_header (read_from s) opened in
       let row_0 = trace_row_text 0 zeroth.0 zeroth.1 in
       let others = rows_bearing 1 (first ∷ rest) in
-      let heard = shown_row (Label 0) 0 (record { refusal = 0; state = from }) in
+      let heard = shown_row (Some 0) 0 (record { refusal = 0; state = from }) in
       let ahead = all_ahead 1 from (first ∷ rest) (omega arith) (omega (arith, can.labels)) can.each.1 in
       record {
-        front = header ∷ told_of 2 row_0 (read_at (Rows (Label 0)) s) heard ∷ [];
+        front = header ∷ told_of 2 row_0 (read_at (Rows (Some 0)) s) heard ∷ [];
         back = ahead.0;
         are =
             ap (told_from 1 (read_from s)) (rows_of_trace (zeroth ∷ first ∷ rest))
             ∙ told_step 1 (read_from s) trace_header (row_0 ∷ others) opened (behind_the_header s)
             ∙ ap (λ (ts : List Told). header ∷ ts)
-            (told_step 2 (read_at (Rows (Label 0)) s) row_0 others heard (row_read 0 s zeroth (omega arith) can.each.0)
-            ∙ ap (λ (ts : List Told). told_of 2 row_0 (read_at (Rows (Label 0)) s) heard ∷ ts) ahead.1);
+            (told_step 2 (read_at (Rows (Some 0)) s) row_0 others heard (row_read 0 s zeroth (omega arith) can.each.0)
+            ∙ ap (λ (ts : List Told). told_of 2 row_0 (read_at (Rows (Some 0)) s) heard ∷ ts) ahead.1);
       }
 
 -- ---- A run with handle and absorbers held

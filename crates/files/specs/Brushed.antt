@@ -6,7 +6,7 @@ use Rattle.voter.specs.declared.Voter.{Voter}
 use Rattle.voter.specs.Voting.{uncounted, value_of}
 use Rattle.voter.specs.Runs.{odd_in, majority, ThreeOdd}
 use Rattle.controller.specs.declared.State.{State}
-use Rattle.controller.specs.declared.Answer.{Answer}
+use Rattle.controller.specs.Answers.{Answer}
 use Rattle.controller.specs.Steps.{some_over_one}
 use Rattle.controller.specs.Samples.{Row}
 use Rattle.image.specs.Items.{sensor_count}

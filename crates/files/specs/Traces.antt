@@ -1,18 +1,16 @@
 -- A trace in form, by the samples that it bears; what any input bears, up to its end or to the refusal that ends it; and the file that the
 -- controller's own answers make (document 01, "The trace and its program").
 -- Assumes nothing.
-use Rattle.std.specs.Prelude.{ℕ, ◌+◌, ◌≤◌, cond, List, [], ◌∷◌, ◌++◌, map, ◌⊎◌, ◌≡◌, leb, length}
+use Rattle.std.specs.Prelude.{ℕ, ◌+◌, ◌≤◌, cond, List, [], ◌∷◌, ◌++◌, map, ◌⊎◌, ◌≡◌, leb, length, Option, Some, None}
 use Rattle.common.specs.Answers.{refuses}
 use Rattle.lines.specs.Rows.{rows_of}
-use Rattle.trace.specs.declared.Due.{Due}
-use Rattle.trace.specs.declared.Due.TheVariants.{Label, Nothing as NoLabel}
 use Rattle.trace.specs.Numbers.{greatest}
 use Rattle.trace.specs.Rows.{read_row}
 use Rattle.trace.specs.Header.{header_text as trace_header}
 use Rattle.trace.specs.Written.{row_text as trace_row_text, AllBits}
 use Rattle.controller.specs.declared.State.{State}
 use Rattle.controller.specs.declared.Shown.{Shown}
-use Rattle.controller.specs.declared.Answer.{Answer}
+use Rattle.controller.specs.Answers.{Answer}
 use Rattle.controller.specs.Start.{started_at}
 use Rattle.controller.specs.Lamps.{shown_of}
 use Rattle.controller.specs.Samples.{Row, answers}
@@ -52,8 +50,8 @@ trace_bearing samples = trace_of (rows_bearing 0 samples)
 -- ---- Any input
 
 -- Behind so many rows this label is due; after 4,294,967,295 none is.
-abbrev pub due_behind : ℕ → Due
-due_behind n = cond (leb n greatest) (Label n) NoLabel
+abbrev pub due_behind : ℕ → Option ℕ
+due_behind n = cond (leb n greatest) (Some n) None
 
 -- What follows so many rows, and what is written of it: nothing, or a row that is refused, and whatever is behind it; that row is on the
 -- line behind the header and these rows.

@@ -70,6 +70,21 @@ narrowed new =
     sensors_narrowed sensors (drop stamp_bytes new) ++
     drop (stamp_bytes + (voter_bytes + count_bytes) * sensors) new
 
+-- Both at once: of each sensor, which has so many bytes, the first eight, and these behind them. Widened is a sensor of eight bytes with eight
+-- zero bytes, and narrowed one of sixteen with none (proofs/Turns.antt).
+unfoldable pub sensor_turned : List ℕ → List ℕ → List ℕ
+sensor_turned behind bytes = take voter_bytes bytes ++ behind
+
+unfoldable pub sensors_turned : List ℕ → ℕ → ℕ → List ℕ → List ℕ
+sensors_turned behind width zero bytes = []
+sensors_turned behind width (suc more) bytes = sensor_turned behind bytes ++ sensors_turned behind width more (drop width bytes)
+
+unfoldable pub turned : List ℕ → ℕ → List ℕ → List ℕ
+turned behind width image =
+    take stamp_bytes image ++
+    sensors_turned behind width sensors (drop stamp_bytes image) ++
+    drop (stamp_bytes + width * sensors) image
+
 -- ---- In a form
 
 -- An image in the new form: an old one is widened, any other is as it is ..

@@ -3,21 +3,12 @@
 // same bytes is proofs/ThereAndBack.antt.
 #![tactic(auto)]
 
-ghost use Rattle.std.specs.Prelude.{◌++◌, ◌≡◌, length, drop};
-ghost use Rattle.texts.specs.Puts.{PutIfRoom, put_of};
-ghost use Rattle.forms.specs.Forms.{
-  stamp_bytes,
-  sensors,
-  old_size,
-  new_size,
-  with_zeros,
-  sensors_widened,
-  sensors_narrowed,
-  widened,
-  narrowed,
-  in_new_form,
-  in_old_form,
-};
+ghost use Rattle.std.specs.Prelude.{◌≡◌, ◌+◌, ◌*◌, ◌≤◌, length};
+ghost use Rattle.texts.specs.Lines.{Puts, PutsIfRoom};
+ghost use Rattle.texts.specs.Puts.{put_of};
+ghost use Rattle.forms.specs.Forms.{stamp_bytes, sensors, voter_bytes, sensors_turned, turned, in_new_form, in_old_form};
+
+use texts::Line;
 
 // An image of the old form has so many bytes: 204.
 pub const OLD: usize = STAMP + VOTER * SENSORS + REST;
@@ -39,94 +30,67 @@ const COUNT: usize = 8;
 // The bytes behind the sensors.
 const REST: usize = 56;
 
-// Puts an image in the new form at the front of a lent buffer: the place after it, or 0 where there is no room for it.
+// Puts an image in the new form at the front of a lent buffer: the place after it, or 0 where there is no room for it. (0 is what
+// `put_of` promises.)
 pub fn put_new(out: &mut [u8], image: &[u8]) -> usize
     ensures { (result, out.new) ≡ put_of out.old 0 (in_new_form image.now) }
 {
-    if image.len() != OLD {
-        return texts::put(out, 0, image);
-    }
-    if out.len() < NEW {
-        return 0;
-    }
-    widen(out, image)
+    let mut line = Line::new(out);
+    put_in_new(&mut line, image);
+    line.at
 }
 
-// The same in the old form.
+// The same in the old form. (Two public functions, each with its own contract.)
 pub fn put_old(out: &mut [u8], image: &[u8]) -> usize
     ensures { (result, out.new) ≡ put_of out.old 0 (in_old_form image.now) }
 {
+    let mut line = Line::new(out);
+    put_in_old(&mut line, image);
+    line.at
+}
+
+// Puts an image in the new form into a line.
+fn put_in_new(line: &mut Line, image: &[u8])
+    ensures { Puts (in_new_form image.now) line.old line.new }
+{
+    if image.len() != OLD {
+        return line.put(image);
+    }
+    if line.has_room(NEW) {
+        put_turned(line, image, VOTER, &[0; COUNT]);
+    }
+}
+
+// The same in the old form. (The two tests stand in both: one function with the lengths as parameters would have six of them, and be no plainer.)
+fn put_in_old(line: &mut Line, image: &[u8])
+    ensures { Puts (in_old_form image.now) line.old line.new }
+{
     if image.len() != NEW {
-        return texts::put(out, 0, image);
+        return line.put(image);
     }
-    if out.len() < OLD {
-        return 0;
+    if line.has_room(OLD) {
+        put_turned(line, image, VOTER + COUNT, &[]);
     }
-    narrow(out, image)
 }
 
-// Puts an old image with eight zero bytes behind each sensor's eight.
-fn widen(out: &mut [u8], old: &[u8]) -> usize
-    requires { length old.now ≡ old_size }
-    ensures { PutIfRoom out.old 0 (widened old.now) out.new result }
+// Puts an image whose sensors have so many bytes each: of each sensor the first eight, and these behind them.
+fn put_turned(line: &mut Line, image: &[u8], width: usize, behind: &[u8])
+    requires { (voter_bytes ≤ width) × (stamp_bytes + width * sensors ≤ length image.now) }
+    ensures { PutsIfRoom (turned behind.now width image.now) line.old line.new }
 {
-    let stamped = texts::put(out, 0, &old[..STAMP]);
-    let sensed = put_widened(out, stamped, old);
-    texts::put(out, sensed, &old[STAMP + VOTER * SENSORS..])
+    let rest = STAMP + width * SENSORS;
+    line.put(&image[..STAMP]);
+    put_sensors(line, &image[STAMP..rest], width, behind);
+    line.put(&image[rest..]);
 }
 
-// Puts a new image without the eight bytes behind each sensor's eight.
-fn narrow(out: &mut [u8], new: &[u8]) -> usize
-    requires { length new.now ≡ new_size }
-    ensures { PutIfRoom out.old 0 (narrowed new.now) out.new result }
+// Puts of each sensor the first eight bytes, and these behind them.
+fn put_sensors(line: &mut Line, bytes: &[u8], width: usize, behind: &[u8])
+    requires { (voter_bytes ≤ width) × (length bytes.now ≡ width * sensors) }
+    ensures { PutsIfRoom (sensors_turned behind.now width sensors bytes.now) line.old line.new }
 {
-    let stamped = texts::put(out, 0, &new[..STAMP]);
-    let sensed = put_narrowed(out, stamped, new);
-    texts::put(out, sensed, &new[STAMP + (VOTER + COUNT) * SENSORS..])
-}
-
-// Puts the sensors of an old image, each with eight zero bytes behind its eight.
-fn put_widened(out: &mut [u8], at: usize, old: &[u8]) -> usize
-    requires { length old.now ≡ old_size }
-    ensures { PutIfRoom out.old at (sensors_widened sensors (drop stamp_bytes old.now)) out.new result }
-{
-    let mut next = at;
-    let mut i = 0;
-    while i < SENSORS {
-        let from = STAMP + VOTER * i;
-        next = put_with_zeros(out, next, &old[from..from + VOTER]);
-        i += 1;
+    for sensor in bytes.chunks_exact(width) {
+        line.put(&sensor[..VOTER]);
+        line.put(behind);
     }
-    next
-}
-
-// Puts eight bytes of a sensor, and eight zero bytes behind them.
-fn put_with_zeros(out: &mut [u8], at: usize, voter: &[u8]) -> usize
-    ensures { PutIfRoom out.old at (with_zeros voter.now) out.new result }
-{
-    let zeros = [0u8; COUNT];
-    put_both(out, at, voter, &zeros)
-}
-
-// Puts some bytes, and others behind them.
-fn put_both(out: &mut [u8], at: usize, one: &[u8], other: &[u8]) -> usize
-    ensures { PutIfRoom out.old at (one.now ++ other.now) out.new result }
-{
-    let told = texts::put(out, at, one);
-    texts::put(out, told, other)
-}
-
-// Puts the sensors of a new image, each without the eight bytes behind its first eight.
-fn put_narrowed(out: &mut [u8], at: usize, new: &[u8]) -> usize
-    requires { length new.now ≡ new_size }
-    ensures { PutIfRoom out.old at (sensors_narrowed sensors (drop stamp_bytes new.now)) out.new result }
-{
-    let mut next = at;
-    let mut i = 0;
-    while i < SENSORS {
-        let from = STAMP + (VOTER + COUNT) * i;
-        next = texts::put(out, next, &new[from..from + VOTER]);
-        i += 1;
-    }
-    next
 }

@@ -13,7 +13,7 @@ use Rattle.lines.proofs.Steps.{either}
 use Rattle.image.specs.Images.{size, save_of}
 use Rattle.reading.specs.declared.Phase.{Phase}
 use Rattle.reading.specs.declared.Phase.TheVariants.{Header, Rows, Ended}
-use Rattle.reading.specs.Rows.{line_of, has_started}
+use Rattle.reading.specs.Rows.{line_of, line_at, has_started}
 use Rattle.reading.specs.declared.Run.{Run}
 use Rattle.handing.specs.Handing.{line_before, last_line, save_last_of}
 use Rattle.handing.proofs.Saving.{with_row_0, without_row_0}
@@ -39,3 +39,9 @@ pub line_exactly : (phase : Phase) → ltb 0 (last_line phase) ≡ has_started p
 line_exactly Header = refl
 line_exactly (Rows due) = has_line (line_of due)
 line_exactly (Ended line refusal) = has_line line
+
+-- It is the one before the line that is due, or that the reading ended on.
+pub by_line : (phase : Phase) → last_line phase ≡ line_before (line_at phase)
+by_line Header = refl
+by_line (Rows due) = refl
+by_line (Ended line refusal) = refl

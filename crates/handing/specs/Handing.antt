@@ -10,7 +10,7 @@ use Rattle.reading.specs.declared.Reading.{Reading}
 use Rattle.reading.specs.Rows.{line_of, has_started, read_from}
 use Rattle.reading.specs.Whole.{read_to}
 use Rattle.reading.specs.declared.Run.{Run}
-use Rattle.handing.specs.declared.Saved.{Saved}
+use Rattle.handing.specs.Answers.{Saved}
 
 -- ---- The whole run
 

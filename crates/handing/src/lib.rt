@@ -4,81 +4,32 @@
 #![tactic(auto)]
 
 ghost use Rattle.std.specs.Prelude.{◌≡◌};
-ghost use Rattle.image.specs.Images.{save_of};
-ghost use Rattle.reading.specs.Rows.{line_of};
-ghost use Rattle.handing.specs.Handing.{line_before, last_line, saved_by, save_last_of};
+ghost use Rattle.handing.specs.Answers.{saved_says};
+ghost use Rattle.handing.specs.Handing.{last_line, save_last_of};
 
-use controller::State;
 use image::SIZE;
-use reading::{Phase, Run};
-use trace::Due;
+use reading::Run;
+use refusals::Refusal;
 
-// What saving gives: 0 or refusal 8, and how many bytes were written.
-#[derive(Clone, Copy)]
-pub struct Saved {
-    pub refusal: u8,
-    pub written: usize,
-}
-
-// Saves the last state of a run into a lent buffer, which must have room for an image. Where row 0 has not been read there is none,
-// and nothing is written.
-pub fn save_last(run: Run, out: &mut [u8]) -> Saved
-    ensures { (result, out.new) ≡ save_last_of run out.old }
+// Saves the last state of a run into a lent buffer, which must have room for an image, and answers how many bytes were written. Where
+// row 0 has not been read there is none, and nothing is written. (That is 0 bytes and no refusal: `save_last_of`.)
+#[tactic(auto, unfolding(crate::specs::Handing::save_last_of))]
+pub fn save_last(run: Run, out: &mut [u8]) -> Result<usize, Refusal>
+    ensures { (saved_says result, out.new) ≡ save_last_of run out.old }
 {
-    let phase = run.phase();
-    if phase.has_started() {
-        return save_state(run.state(), out);
+    if !run.phase().has_started() {
+        return Ok(0);
     }
-    Saved {
-        refusal: 0,
-        written: 0,
-    }
+    image::save(run.state(), out)?;
+    Ok(SIZE)
 }
 
-// The line of the trace that the last state of a run is of: that of the last row that was answered. Where row 0 has not been read it is 0.
+// The line of the trace that the last state of a run is of: that of the last row that was answered. Where row 0 has not been read it is 0. (0 and no
+// None: `last_line` has it so.)
+#[tactic(auto, using(crate::proofs::Law::by_line))]
 pub fn last_line(run: Run) -> u64
     ensures { result ≡ last_line run.reading.phase }
 {
-    match run.phase() {
-        Phase::Header => 0,
-        Phase::Rows(due) => line_before(line_of(due)),
-        Phase::Ended { line, refusal: _ } => line_before(line),
-    }
-}
-
-// The line before one, if that is a row of a trace.
-fn line_before(line: u64) -> u64
-    ensures { result ≡ line_before line }
-{
-    if 2 < line {
-        return line - 1;
-    }
-    0
-}
-
-// The line of the row that is due.
-fn line_of(due: Due) -> u64
-    ensures { result ≡ line_of due }
-{
-    match due {
-        Due::Label(n) => (n as u64) + 2,
-        Due::Nothing => 4294967298,
-    }
-}
-
-// Saves a controller into a lent buffer.
-fn save_state(state: State, out: &mut [u8]) -> Saved
-    ensures { (result, out.new) ≡ saved_by (save_of state out.old) }
-{
-    let refusal = image::save(state, out);
-    if refusal == 0 {
-        return Saved {
-            refusal,
-            written: SIZE,
-        };
-    }
-    Saved {
-        refusal,
-        written: 0,
-    }
+    let line = run.phase().line();
+    if 2 < line { line - 1 } else { 0 }
 }

@@ -7,7 +7,7 @@ use Rattle.cylinder.specs.Moves.{fastest}
 use Rattle.joined.specs.declared.Given.{Given}
 use Rattle.joined.specs.declared.Given.TheVariants.{Rate}
 use Rattle.joined.specs.declared.Rig.{Rig}
-use Rattle.joined.specs.declared.Stepped.{Stepped}
+use Rattle.joined.specs.Answers.{Stepped}
 use Rattle.joined.specs.Rigs.{step_at}
 
 -- ---- Steps in a row

@@ -5,16 +5,17 @@ use native.Mathlib.Omega.{arith}
 use mathlib.Core.Bool.{Bool, true, false, cond}
 use mathlib.Core.List.{List, ◌++◌, append-nil}
 use mathlib.Core.Logic.◌⊎◌.{inl}
-use mathlib.Core.Path.{◌≡◌, sym, ap, ◌∙◌}
-use lib.Dec.{eqb, lit<}
-use lib.ListN.{length, get_or, take, drop, replicate, drop_of_length-le}
+use mathlib.Core.Path.{◌≡◌, refl, sym, ap, ◌∙◌}
+use Rattle.std.proofs.lemmas.Bool.{eqb-false}
+use lib.Dec.{eqb, eqb→eq, lit<}
+use lib.ListN.{length, get_or, take, drop, drop_of_length-le}
 use lib.Seq.{get_or-take}
 use Rattle.common.specs.Lists.{Each}
 use Rattle.common.proofs.Each.{each_at_index, each_by_index, each_append, each_take, each_drop}
 use Rattle.texts.specs.Puts.{put_of}
 use Rattle.texts.proofs.Placing.{did_put, front_line}
 use Rattle.forms.specs.Forms.{stamp_bytes, sensors, voter_bytes, old_size, HasForm, eight_zeros, with_zeros, sensors_widened, widened, in_new_form}
-use Rattle.forms.proofs.ThereAndBack.{new_stays, other_is_not_widened, new_form_length, has_stamp, stamp_in_new_form}
+use Rattle.forms.proofs.ThereAndBack.{other_is_not_widened, new_form_length, has_stamp, stamp_in_new_form}
 use Rattle.controller.specs.declared.State.{State}
 use Rattle.image.specs.Xdr.{items_in}
 use Rattle.image.specs.Items.{item_at, state_in}
@@ -23,33 +24,40 @@ use Rattle.image.specs.Faults.{fault_of}
 use Rattle.image.specs.Conditions.{AllBytes}
 use Rattle.image.proofs.Reading.{item_at_lem}
 
--- In the new form an image stays as it is.
-pub stays_new : (image : List ℕ) → HasForm image → in_new_form (in_new_form image) ≡ in_new_form image
-stays_new image form = new_stays (in_new_form image) (new_form_length image form)
+-- In the new form an image has not the length of the old one ..
+pub not_old : (image : List ℕ) → length (in_new_form image) ≡ old_size → ⊥
+not_old image e = by (eqb (length image) old_size) refl where
+  by : (is_old : Bool) → eqb (length image) old_size ≡ is_old → ⊥
+  by true is = omega (arith, new_form_length image (inl (eqb→eq _ _ (rw is tt))), e)
+  by false is = let other = eqb-false _ _ is in other (sym (ap length (other_is_not_widened image other)) ∙ e)
 
-module _ (image : List ℕ) (form : HasForm image) where
+-- .. and stays as it is.
+pub stays_new : (image : List ℕ) → in_new_form (in_new_form image) ≡ in_new_form image
+stays_new image = other_is_not_widened (in_new_form image) (not_old image)
+
+module _ (image : List ℕ) where
   pub same_items : new_items (in_new_form image) ≡ new_items image
   unfolding new_items
-  same_items = ap items_in (stays_new image form)
+  same_items = ap items_in (stays_new image)
 
-  -- Both forms load as the same controller, at every stamp, ..
+  -- It loads as the same controller, at every stamp, ..
   pub same_controller : (stamp : ℕ) → loaded_at stamp (in_new_form image) ≡ loaded_at stamp image
   unfolding loaded_at
   same_controller stamp = ap (state_in stamp) same_items
 
-  -- .. are taken or refused alike, ..
+  -- .. is taken or refused alike, ..
   pub same_refusal : refusal_of (in_new_form image) ≡ refusal_of image
   unfolding refusal_of fits
-  same_refusal = rw (stays_new image form, same_items, same_controller 0)
+  same_refusal = rw (stays_new image, same_items, same_controller 0)
 
   pub same_loading : (before : State) (stamp : ℕ) → load_of before (in_new_form image) stamp ≡ load_of before image stamp
   unfolding load_of
   same_loading before stamp = rw (same_refusal, same_controller stamp)
 
-  -- .. and have the same fault.
+  -- .. and has the same fault.
   pub same_fault : fault_of (in_new_form image) ≡ fault_of image
   unfolding fault_of
-  same_fault = rw (stays_new image form, same_items, same_controller 0)
+  same_fault = rw (stays_new image, same_items, same_controller 0)
 
 -- Of what is no old image the items are those that it has.
 pub own_items : (image : List ℕ) → (length image ≡ old_size → ⊥) → new_items image ≡ items_in image
@@ -57,14 +65,13 @@ unfolding new_items
 own_items image other = ap items_in (other_is_not_widened image other)
 
 -- An old image that is put into an array of the size of a new one fills it.
-pub fills : (image : List ℕ) → length image ≡ old_size → (next : ℕ) (after : List ℕ)
-    → (next, after) ≡ put_of (replicate size 0) 0 (in_new_form image) → after ≡ in_new_form image
-fills image old next after put =
+pub fills : (image : List ℕ) → length image ≡ old_size → (before : List ℕ) → length before ≡ size → (next : ℕ) (after : List ℕ)
+    → (next, after) ≡ put_of before 0 (in_new_form image) → after ≡ in_new_form image
+fills image old before room next after put =
     let long = new_form_length image (inl old) in
-    let zeros : List ℕ = replicate size 0 in
-    let room : 0 + length (in_new_form image) ≤ length zeros = omega (arith, long) in
-    front_line (did_put room put)
-    ∙ ap (λ (l : List ℕ). in_new_form image ++ l) (drop_of_length-le zeros {i = length (in_new_form image)} (omega (arith, long)))
+    let fits : 0 + length (in_new_form image) ≤ length before = omega (arith, long) in
+    front_line (did_put fits put)
+    ∙ ap (λ (l : List ℕ). in_new_form image ++ l) (drop_of_length-le before {i = length (in_new_form image)} (omega (arith, long)))
     ∙ append-nil (in_new_form image)
 
 -- ---- The stamp

@@ -1,5 +1,8 @@
 -- What is wrong with an image, by its cases; and that it is what the refusal says.
 -- Assumes nothing.
+use Rattle.std.specs.Prelude.{Option, None, Some}
+use Rattle.std.specs.Option.{option_map}
+use Rattle.std.specs.List.{position}
 use Prim.Native.Nat.{ℕ, zero, suc, ◌<◌, ◌≤◌}
 use native.Mathlib.Omega.{arith}
 use mathlib.Core.Bool.{Bool, true, false, cond, not}
@@ -13,21 +16,21 @@ use Rattle.common.specs.Lowest.{lowest}
 use Rattle.forms.specs.Forms.{old_size, in_new_form}
 use Rattle.forms.proofs.ThereAndBack.{other_is_not_widened, new_form_length}
 use Rattle.controller.specs.declared.State.{State}
-use Rattle.image.specs.declared.Fault.TheVariants.{Nothing, Length, Item, Rule}
+use Rattle.image.specs.declared.Fault.TheVariants.{Length, Item, Rule}
 use Rattle.image.specs.Xdr.{items_in}
 use Rattle.image.specs.Items.{item_count, item_at, tops, within, state_in}
 use Rattle.image.specs.Rules.{rule_count, rules, rules_hold}
 use Rattle.image.specs.Images.{size, new_items, fits, loaded_at, refusal_of, load_of}
-use Rattle.image.specs.Faults.{first_out, first_broken, fault_of, fault_says}
+use Rattle.image.specs.Faults.{first_out, first_broken, IsPlace, fault_of, fault_says}
 use Rattle.image.proofs.Fours.{items_length}
 use Rattle.image.proofs.EitherForm.{own_items}
-use Rattle.image.proofs.Searching.{none_out, none_broken}
+use Rattle.image.proofs.Searching.{none_out, none_broken, first_broken_place}
 use Rattle.image.proofs.Strung.{tops_length}
 
 -- ---- It says what the refusal says
 
 by_tests : (long ranged keeps : Bool) (j k : ℕ)
-    → fault_says (cond long (cond ranged (cond keeps Nothing (Rule j)) (Item k)) Length) ≡ lowest 10 (not (cond long ranged false) ∷ not keeps ∷ [])
+    → fault_says (cond long (cond ranged (cond keeps None (Some (Rule j))) (Some (Item k))) (Some Length)) ≡ lowest 10 (not (cond long ranged false) ∷ not keeps ∷ [])
 by_tests true true true j k = refl
 by_tests true true false j k = refl
 by_tests true false keeps j k = refl
@@ -72,6 +75,11 @@ pub rules_kept : (s : State) → rules_hold s ≡ eqb (first_broken (rules s)) r
 unfolding rules rules_hold
 rules_kept s = none_broken (rules s)
 
+-- The first rule that is broken is the first test that fails.
+pub rule_found : (s : State) → IsPlace rule_count (first_broken (rules s)) (position not (rules s))
+unfolding rules
+rule_found s = first_broken_place (rules s)
+
 -- Of an image of the new form, by its own items.
 module _ (image : List ℕ) (long : length image ≡ size) where
   not_old : length image ≡ old_size → ⊥
@@ -95,7 +103,7 @@ module _ (image : List ℕ) (long : length image ≡ size) where
   unfolding loaded_at
   own_controller stamp = ap (state_in stamp) (own_items image not_old)
 
-  pub fault_item : (first_out tops (items_in image) ≡ item_count → ⊥) → fault_of image ≡ Item (first_out tops (items_in image))
+  pub fault_item : (first_out tops (items_in image) ≡ item_count → ⊥) → fault_of image ≡ Some (Item (first_out tops (items_in image)))
   unfolding fault_of
   fault_item out = rw (eq-eqb _ _ new_form, all_ranged, ne_eqb _ _ out, own_items image not_old)
 
@@ -103,15 +111,21 @@ module _ (image : List ℕ) (long : length image ≡ size) where
     pub items_ranged : T (within tops (items_in image))
     items_ranged = subst⁻¹ T (sym (ap (within tops) (own_items image not_old)) ∙ all_ranged ∙ eq-eqb _ _ ranged) tt
 
-    pub fault_rule : (first_broken (rules (state_in 0 (items_in image))) ≡ rule_count → ⊥) → fault_of image ≡ Rule (first_broken (rules (state_in 0 (items_in image))))
+    pub fault_rule : (first_broken (rules (state_in 0 (items_in image))) ≡ rule_count → ⊥) → fault_of image ≡ Some (Rule (first_broken (rules (state_in 0 (items_in image)))))
     unfolding fault_of
     fault_rule broken =
         rw (eq-eqb _ _ new_form, all_ranged, eq-eqb _ _ ranged, own_controller 0, rules_kept (state_in 0 (items_in image)), ne_eqb _ _ broken)
 
-    pub fault_nothing : first_broken (rules (state_in 0 (items_in image))) ≡ rule_count → fault_of image ≡ Nothing
+    pub fault_nothing : first_broken (rules (state_in 0 (items_in image))) ≡ rule_count → fault_of image ≡ None
     unfolding fault_of
     fault_nothing kept =
         rw (eq-eqb _ _ new_form, all_ranged, eq-eqb _ _ ranged, own_controller 0, rules_kept (state_in 0 (items_in image)), eq-eqb _ _ kept)
+
+    -- So it is by the rule that is found broken, if there is one.
+    pub fault_last : (found : Option ℕ) → IsPlace rule_count (first_broken (rules (state_in 0 (items_in image)))) found
+        → option_map Rule found ≡ fault_of image
+    fault_last None kept = sym (fault_nothing kept)
+    fault_last (Some k) broken = ap (λ (n : ℕ). Some (Rule n)) broken.0 ∙ sym (fault_rule (λ all. omega (arith, broken.0, broken.1, all)))
 
 -- Of what has the length of neither form.
 module _ (image : List ℕ) (old : length image ≡ old_size → ⊥) (new : length image ≡ size → ⊥) where
@@ -122,6 +136,6 @@ module _ (image : List ℕ) (old : length image ≡ old_size → ⊥) (new : len
   unfolding fits
   fits_not = rw (ne_eqb _ _ no_form)
 
-  pub fault_length : fault_of image ≡ Length
+  pub fault_length : fault_of image ≡ Some Length
   unfolding fault_of
   fault_length = rw (ne_eqb _ _ no_form)

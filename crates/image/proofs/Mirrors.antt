@@ -12,7 +12,8 @@ use Rattle.common.specs.Lists.{Each}
 use Rattle.voter.specs.declared.Voter.{Voter}
 use Rattle.voter.specs.Counts.{CountInRange}
 use Rattle.sensors.specs.Items.{items_per_sensor, sensor_items, sensor_tops, sensor_in}
-use Rattle.sensors.proofs.Mirrors.{one_of_bit, bit_of_one, as_many_items, sensor_mirror, in_range_counts, items_mirror as sensor_items_mirror}
+use Rattle.common.proofs.Bits.{one_of_bit, bit_of_one}
+use Rattle.sensors.proofs.Mirrors.{as_many_items, sensor_mirror, in_range_counts, items_mirror as sensor_items_mirror}
 use Rattle.sequence.proofs.Numbering.{doors_at_number, gears_at_number, number_at_doors, number_at_gears}
 use Rattle.controller.specs.declared.Core.{Core}
 use Rattle.controller.specs.declared.State.{State}

@@ -5,6 +5,9 @@ use mathlib.Core.List.{List}
 use mathlib.Core.Path.{sym, ◌∙◌}
 use Rattle.common.specs.OneAnswer.{OneAnswer, OneAnswerAnd}
 use Rattle.common.proofs.Pairs.{both}
+use Rattle.refusals.proofs.Laws.{coded_once}
+use Rattle.controller.proofs.Said.{said_once}
+use Rattle.controller.specs.Start.{fresh_of}
 use Rattle.image.proofs.save.Kinds as save_kinds
 use Rattle.image.proofs.save.Reads as save_reads
 use Rattle.image.proofs.load.Kinds as load_kinds
@@ -17,10 +20,10 @@ use Rattle.image.proofs.last_stamp.Kinds as last_stamp_kinds
 use Rattle.image.proofs.last_stamp.Reads as last_stamp_reads
 
 pub save_once : OneAnswerAnd 1 save_kinds.ps save_kinds.r save_reads.Post (List ℕ) (λ κs s. s.1.0.now)
-save_once κs a x y s t p q = both (p ∙ sym q)
+save_once κs a x y s t p q = let e = both (p ∙ sym q) in (coded_once x y e.0, e.1)
 
 pub load_once : OneAnswer 1 load_kinds.ps load_kinds.r load_reads.Post
-load_once κs a x y s t p q = p ∙ sym q
+load_once κs a x y s t p q = said_once (fresh_of 0) x y (p (fresh_of 0) ∙ sym (q (fresh_of 0)))
 
 pub find_fault_once : OneAnswer 1 find_fault_kinds.ps find_fault_kinds.r find_fault_reads.Post
 find_fault_once κs a x y s t p q = p ∙ sym q

@@ -19,14 +19,15 @@ use Rattle.forms.proofs.ThereAndBack.{new_form_length}
 use Rattle.voter.specs.declared.Voter.{Voter}
 use Rattle.voter.specs.Counts.{CountInRange}
 use Rattle.sensors.specs.Items.{sensor_items, sensor_tops}
-use Rattle.sensors.proofs.Mirrors.{bit_to_1, items_in_range}
+use Rattle.common.proofs.Bits.{bit_to_1}
+use Rattle.sensors.proofs.Mirrors.{items_in_range}
 use Rattle.sequence.specs.Numbers.{doors_number, gears_number, last_number as last_place}
 use Rattle.sequence.proofs.Numbering.{doors_to_3, gears_to_3}
 use Rattle.orders.specs.declared.Order.{Order}
 use Rattle.orders.specs.declared.Orders.{Orders}
 use Rattle.controller.specs.declared.Core.{Core}
 use Rattle.controller.specs.declared.State.{State}
-use Rattle.controller.specs.declared.Answer.{Answer}
+use Rattle.controller.specs.Answers.{Answer}
 use Rattle.controller.specs.Start.{started_at}
 use Rattle.image.specs.Xdr.{four_bytes, bytes_of, items_in}
 use Rattle.image.specs.Items.{

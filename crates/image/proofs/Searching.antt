@@ -1,17 +1,25 @@
 -- The first item out of its range, and the first rule broken: as a loop looks for them, and that there is none where all is well.
 -- Assumes nothing.
+use Rattle.std.specs.Prelude.{Option, None, Some, nat_lt}
+use Rattle.std.specs.Option.{is_some}
+use Rattle.std.specs.List.{position, position_or_len}
+use Rattle.std.proofs.lemmas.Bool.{ne_eqb, ltb-true, ltb-false}
+use Rattle.std.proofs.lemmas.List.Sums.{prefix_len-le-length}
+use Rattle.std.proofs.Common.{rules}
 use Prim.Native.Nat.{ℕ, suc, ◌+◌, ◌≤◌, ◌<◌}
 use native.Mathlib.Numerals.{add-one}
 use native.Mathlib.Omega.{arith}
-use mathlib.Core.Bool.{Bool, true, false, cond, ◌&&◌}
-use mathlib.Core.List.{List, [], ◌∷◌}
+use mathlib.Core.Bool.{Bool, true, false, not, cond, ◌&&◌}
+use mathlib.Core.List.{List, [], ◌∷◌, ◌++◌}
 use mathlib.Core.Path.{◌≡◌, refl, sym, ◌∙◌}
+use borrow.Author.Tests.{eq-eqb}
 use lib.Dec.{eqb, leb, eqb-zero-suc, eqb-suc-suc}
-use lib.ListN.{length, get_or, drop, drop_of_length-le}
+use lib.ListN.{length, drop, drop_of_length-le}
 use lib.Seq.{drop-cons}
 use Rattle.common.specs.Tests.{every}
+use Rattle.image.specs.Xdr.{items_in}
 use Rattle.image.specs.Items.{within, item_at}
-use Rattle.image.specs.Faults.{first_out, first_broken, all_zero}
+use Rattle.image.specs.Faults.{first_out, first_broken, all_zero, is_blank, IsPlace}
 
 -- ---- One after the other
 
@@ -26,15 +34,19 @@ pub out_end : (tops items : List ℕ) (k : ℕ) → length tops ≤ k → first_
 unfolding first_out
 out_end tops items k h = rw (drop_of_length-le tops h)
 
-module _ (tests : List Bool) (k : ℕ) where
-  pub broken_turn : (d : Bool) → k < length tests
-      → first_broken (drop k tests) ≡ cond (get_or tests k d) (suc (first_broken (drop (k + 1) tests))) 0
-  unfolding first_broken
-  broken_turn d h = rw (add-one, drop-cons tests k d h)
+-- The first test that fails.
+pub first_broken_is : (tests : List Bool) → first_broken tests ≡ position_or_len not tests
+unfolding first_broken
+first_broken_is [] = refl
+first_broken_is (true ∷ tests) = rw (first_broken_is tests) (search rules)
+first_broken_is (false ∷ tests) = refl
 
-  pub broken_end : length tests ≤ k → first_broken (drop k tests) ≡ 0
-  unfolding first_broken
-  broken_end h = rw (drop_of_length-le tests h)
+pub first_broken_place : (tests : List Bool) → IsPlace (length tests) (first_broken tests) (position not tests)
+first_broken_place tests = by (nat_lt (position_or_len not tests) (length tests)) refl where
+  by : (t : Bool) → nat_lt (position_or_len not tests) (length tests) ≡ t
+      → IsPlace (length tests) (first_broken tests) (cond t (Some (position_or_len not tests)) None)
+  by true is = (sym (first_broken_is tests), ltb-true _ _ is)
+  by false is = omega (arith, first_broken_is tests, ltb-false _ _ is, prefix_len-le-length (λ (t : Bool). not (not t)) tests)
 
 -- ---- All is well exactly where none is found
 
@@ -55,13 +67,28 @@ none_broken [] = refl
 none_broken (true ∷ tests) = none_broken tests ∙ sym (eqb-suc-suc (first_broken tests) (length tests))
 none_broken (false ∷ tests) = sym (eqb-zero-suc (length tests))
 
+-- None is found exactly where the place is past them all.
+pub none_found : (count place : ℕ) (found : Option ℕ) (none : Bool) → IsPlace count place found → is_some found ≡ not none → none ≡ eqb place count
+none_found count place None true p e = sym (eq-eqb _ _ p)
+none_found count place None false p e = absurd (cc)
+none_found count place (Some k) true p e = absurd (cc)
+none_found count place (Some k) false p e = sym (ne_eqb place count (λ all. omega (arith, p.0, p.1, all)))
+
 -- ---- Every item is 0
 
-module _ (items : List ℕ) (k : ℕ) where
-  pub zero_turn : k < length items → all_zero (drop k items) ≡ (eqb (item_at items k) 0 && all_zero (drop (k + 1) items))
-  unfolding all_zero
-  zero_turn h = rw (add-one, drop-cons items k 0 h)
+pub blank_turn : (item rest : List ℕ) → length item ≡ 4 → is_blank (item ++ rest) ≡ (eqb (item_at (items_in item) 0) 0 && is_blank rest)
+unfolding items_in all_zero is_blank
+blank_turn [] rest e = absurd (omega arith)
+blank_turn (a ∷ []) rest e = absurd (omega arith)
+blank_turn (a ∷ b ∷ []) rest e = absurd (omega arith)
+blank_turn (a ∷ b ∷ c ∷ []) rest e = absurd (omega arith)
+blank_turn (a ∷ b ∷ c ∷ d ∷ []) rest e = refl
+blank_turn (a ∷ b ∷ c ∷ d ∷ f ∷ item) rest e = absurd (omega arith)
 
-  pub zero_end : length items ≤ k → all_zero (drop k items) ≡ true
-  unfolding all_zero
-  zero_end h = rw (drop_of_length-le items h)
+pub blank_end : (rest : List ℕ) → length rest < 4 → is_blank rest ≡ true
+unfolding items_in all_zero is_blank
+blank_end [] h = refl
+blank_end (a ∷ []) h = refl
+blank_end (a ∷ b ∷ []) h = refl
+blank_end (a ∷ b ∷ c ∷ []) h = refl
+blank_end (a ∷ b ∷ c ∷ d ∷ rest) h = absurd (omega arith)

@@ -68,14 +68,6 @@ module _ (one others : List ℕ) (long : length one ≡ items_per_sensor) (j : �
       let place : items_per_sensor * suc i + j ≡ length one + (items_per_sensor * i + j) = omega arith in
       ap (λ (k : ℕ). get_or (one ++ others) k 0) place ∙ get_or-append-add one others (items_per_sensor * i + j) 0
 
-strung_item : (voters : List Voter) (d : Voter) (i j : ℕ) → i < length voters → j < items_per_sensor
-    → get_or (sensors_items voters) (items_per_sensor * i + j) 0 ≡ get_or (sensor_items (get_or voters i d)) j 0
-unfolding sensors_items
-strung_item [] d i j h less = absurd (omega arith)
-strung_item (v ∷ voters) d zero j h less = of_the_first (sensor_items v) (sensors_items voters) (as_many_items v) j less
-strung_item (v ∷ voters) d (suc i) j h less =
-    of_the_others (sensor_items v) (sensors_items voters) (as_many_items v) j i ∙ strung_item voters d i j (omega arith) less
-
 strung_top : (sensors i j : ℕ) → i < sensors → j < items_per_sensor
     → get_or (sensors_tops sensors) (items_per_sensor * i + j) 0 ≡ get_or sensor_tops j 0
 unfolding sensors_tops
@@ -116,23 +108,7 @@ module _ (stamp : ℕ) (sensors core : List ℕ) (long : length sensors ≡ sens
       let place : k ≡ suc (length sensors + (k - first_order)) = omega arith in
       sym (ap (λ (n : ℕ). get_or (stamp ∷ (sensors ++ core)) n 0) place ∙ get_or-append-add sensors core (k - first_order) 0)
 
--- Of a controller ..
-module _ (s : State) (all : length s.voters ≡ sensor_count) (k : ℕ) where
-  long : length (sensors_items s.voters) ≡ sensor_width
-  long = omega (arith, sensors_items_length s.voters)
-
-  pub sensor_item : (d : Voter) → 1 ≤ k → k < first_order
-      → get_or (sensor_items (get_or s.voters ((k - 1) / items_per_sensor) d)) ((k - 1) % items_per_sensor) 0 ≡ item_at (items_of s) k
-  unfolding items_of
-  sensor_item d =
-      of_sensor s.stamp (sensors_items s.voters) (core_items s.core) long k (λ i. sensor_items (get_or s.voters i d))
-      (λ i j h. strung_item s.voters d i j (omega arith))
-
-  pub core_item : first_order ≤ k → get_or (core_items s.core) (k - first_order) 0 ≡ item_at (items_of s) k
-  unfolding items_of
-  core_item = of_core s.stamp (sensors_items s.voters) (core_items s.core) long k
-
--- .. and of the ranges.
+-- Of the ranges.
 pub sensor_top : (k : ℕ) → 1 ≤ k → k < first_order → get_or sensor_tops ((k - 1) % items_per_sensor) 0 ≡ item_at tops k
 unfolding tops
 sensor_top k =

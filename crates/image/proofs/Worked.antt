@@ -1,5 +1,6 @@
 -- The worked images come out as they should: the rules compute.
 -- Assumes nothing.
+use Rattle.std.specs.Prelude.{Some}
 use mathlib.Core.Bool.{true}
 use mathlib.Core.Path.{◌≡◌, refl}
 use lib.ListN.{replicate}
@@ -49,14 +50,14 @@ unfolding
 as_worked = refl
 
 -- What is wrong with an image is named: here an age, and a rule.
-pub age_named : fault_of (bytes_of (with extend_age 60001 fresh)) ≡ Item extend_age
+pub age_named : fault_of (bytes_of (with extend_age 60001 fresh)) ≡ Some (Item extend_age)
 unfolding
     four_bytes item_from bytes_of items_in
     sensors_tops core_tops tops within
     in_new_form new_items first_out fault_of fresh
 age_named = refl
 
-pub rule_named : fault_of (bytes_of (with doors 1 fresh)) ≡ Rule 5
+pub rule_named : fault_of (bytes_of (with doors 1 fresh)) ≡ Some (Rule 5)
 unfolding
     step_rules
     number_of channels_at sensor_items sensor_in doors_at gears_at

@@ -5,7 +5,7 @@ use Rattle.std.specs.Prelude.{ℕ, ◌*◌, Bool, false, cond, not, List, [], �
 use Rattle.common.specs.Lowest.{lowest}
 use Rattle.forms.specs.Forms.{in_new_form}
 use Rattle.controller.specs.declared.State.{State}
-use Rattle.controller.specs.declared.Answer.{Answer}
+use Rattle.controller.specs.Answers.{Answer}
 use Rattle.image.specs.Xdr.{bytes_of, items_in}
 use Rattle.image.specs.Items.{item_count, items_of, tops, within, state_in}
 use Rattle.image.specs.Rules.{rules_hold}

@@ -5,8 +5,11 @@
 // is refused). specs/Conditions.antt says condition by condition which images are taken, and proofs/Exact.antt that it is so exactly.
 #![tactic(auto)]
 
-ghost use Rattle.std.specs.Prelude.{◌≡◌, length};
-ghost use Rattle.forms.specs.Forms.{old_size};
+ghost use Rattle.std.specs.Prelude.{◌≡◌};
+ghost use Rattle.refusals.specs.Answers.{code_of};
+ghost use Rattle.forms.specs.Forms.{in_new_form};
+ghost use Rattle.controller.specs.declared.State.{State};
+ghost use Rattle.controller.specs.Answers.{answer_says};
 ghost use Rattle.image.specs.Xdr.{items_in};
 ghost use Rattle.image.specs.Items.{item_at};
 ghost use Rattle.image.specs.Images.{save_of, load_of};
@@ -17,7 +20,8 @@ mod ranges;
 mod rules;
 mod xdr;
 
-use controller::{Answer, State};
+use controller::State;
+use refusals::Refusal;
 
 // An image of the new form has so many bytes: 348.
 pub const SIZE: usize = xdr::ITEM * ITEMS;
@@ -34,11 +38,9 @@ const SENSORS: usize = forms::SENSORS;
 // Items of the orders, on and age of five, and handle age, doors, gears, cause (`core_width`).
 const CORE: usize = 14;
 
-// What is wrong with an image.
+// What is wrong with an image that is refused.
 #[derive(Clone, Copy)]
 pub enum Fault {
-    // Nothing: it is taken.
-    Nothing,
     // It has the length of neither form.
     Length,
     // The first item that is out of its range, by its place in the new form, counted from 0.
@@ -47,55 +49,58 @@ pub enum Fault {
     Rule(usize),
 }
 
-// Saves a controller into a lent buffer: 0, or 8 where the buffer is shorter than an image.
-pub fn save(state: State, out: &mut [u8]) -> u8
-    ensures { (result, out.new) ≡ save_of state out.old }
+// Saves a controller into a lent buffer; refusal 8 where the buffer is shorter than an image, which is as it was then.
+pub fn save(state: State, out: &mut [u8]) -> Result<(), Refusal>
+    ensures { (code_of result, out.new) ≡ save_of state out.old }
 {
     if out.len() < SIZE {
-        return 8;
+        return Err(Refusal::Room);
     }
-    let voters = state.voters;
-    let core = state.core;
-    items::put_state(out, state.stamp, voters, core);
-    0
+    items::put_state(out, state);
+    Ok(())
 }
 
-// Loads an image of either form at a new start stamp: 0 and the controller that it is of, or 10 or 11 and the controller as it was.
-pub fn load(before: State, image: &[u8], stamp: u32) -> Answer
-    ensures { result ≡ load_of before image.now stamp }
+// Loads an image of either form at a new start stamp: the controller that it is of, or refusal 10 or 11. Whatever controller stood before stays.
+pub fn load(image: &[u8], stamp: u32) -> Result<State, Refusal>
+    ensures { (before : State) → answer_says before result ≡ load_of before image.now stamp }
 {
-    if image.len() != forms::OLD {
-        return load_new(before, image, stamp);
+    let mut room = [0; SIZE];
+    let new = in_new_form(image, &mut room);
+    if !ranges::fits(new) {
+        return Err(Refusal::Range);
     }
-    let mut new = [0u8; SIZE];
-    forms::put_new(&mut new, image);
-    load_new(before, &new, stamp)
+    let state = items::state_in(new, stamp);
+    if !rules::hold(state) {
+        return Err(Refusal::Rule);
+    }
+    Ok(state)
 }
 
-// What is wrong with an image: where `load` answers 0 it is nothing, where it answers 10 the length or an item, and at 11 a rule.
-pub fn find_fault(image: &[u8]) -> Fault
+// What is wrong with an image: where `load` takes it nothing is, where it answers refusal 10 the length or an item, and at 11 a rule.
+pub fn find_fault(image: &[u8]) -> Option<Fault>
     ensures { result ≡ fault_of image.now }
 {
-    if image.len() != forms::OLD {
-        return find_fault_new(image);
+    let mut room = [0; SIZE];
+    let new = in_new_form(image, &mut room);
+    if new.len() != SIZE {
+        return Some(Fault::Length);
     }
-    let mut new = [0u8; SIZE];
-    forms::put_new(&mut new, image);
-    find_fault_new(&new)
+    if let Some(k) = ranges::first_out(new) {
+        return Some(Fault::Item(k));
+    }
+    rules::first_broken(items::state_in(new, 0)).map(Fault::Rule)
 }
 
 // Whether every item is 0: what a write leaves that was lost.
 pub fn is_blank(image: &[u8]) -> bool
     ensures { result ≡ is_blank image.now }
 {
-    let count = image.len() / xdr::ITEM;
-    let mut all = true;
-    let mut k = 0;
-    while k < count {
-        all = all & (xdr::item(image, k) == 0);
-        k += 1;
+    for bytes in image.chunks_exact(xdr::ITEM) {
+        if xdr::item(bytes, 0) != 0 {
+            return false;
+        }
     }
-    all
+    true
 }
 
 // The last stamp that an image bears; 0 where it has not even that item.
@@ -108,43 +113,13 @@ pub fn last_stamp(image: &[u8]) -> u32
     xdr::item(image, 0)
 }
 
-// Loads what is no image of the old form.
-fn load_new(before: State, image: &[u8], stamp: u32) -> Answer
-    requires { length image.now ≡ old_size → ⊥ }
-    ensures { result ≡ load_of before image.now stamp }
+// An image in the new form: an old one is widened into the room that is lent.
+fn in_new_form<'a>(image: &'a [u8], room: &'a mut [u8; SIZE]) -> &'a [u8]
+    ensures { result.now ≡ in_new_form image.now }
 {
-    if ranges::fits(image) {
-        let state = items::state_in(image, stamp);
-        if rules::hold(state) {
-            return Answer { refusal: 0, state };
-        }
-        return Answer {
-            refusal: 11,
-            state: before,
-        };
+    if image.len() != forms::OLD {
+        return image;
     }
-    Answer {
-        refusal: 10,
-        state: before,
-    }
-}
-
-// What is wrong with what is no image of the old form.
-fn find_fault_new(image: &[u8]) -> Fault
-    requires { length image.now ≡ old_size → ⊥ }
-    ensures { result ≡ fault_of image.now }
-{
-    if image.len() != SIZE {
-        return Fault::Length;
-    }
-    let k = ranges::first_out(image);
-    if k != ITEMS {
-        return Fault::Item(k);
-    }
-    let state = items::state_in(image, 0);
-    let rule = rules::first_broken(state);
-    if rule != rules::RULES {
-        return Fault::Rule(rule);
-    }
-    Fault::Nothing
+    forms::put_new(room, image);
+    room
 }

@@ -4,7 +4,7 @@ ghost use Rattle.forms.specs.Forms.{old_size};
 ghost use Rattle.image.specs.Xdr.{items_in};
 ghost use Rattle.image.specs.Items.{item_count, tops, item_at};
 ghost use Rattle.image.specs.Images.{size, fits};
-ghost use Rattle.image.specs.Faults.{first_out};
+ghost use Rattle.image.specs.Faults.{first_out, IsPlace};
 
 use crate::{CORE, FIRST_ORDER, ITEMS, SIZE, xdr};
 use orders::OLDEST;
@@ -15,29 +15,24 @@ const CORE_TOPS: [u32; CORE] = [
 ];
 
 // Whether the length is right, and every item is in its range.
-pub(crate) fn fits(image: &[u8]) -> bool
-    requires { length image.now ≡ old_size → ⊥ }
-    ensures { result ≡ fits image.now }
+pub(crate) fn fits(new: &[u8]) -> bool
+    requires { length new.now ≡ old_size → ⊥ }
+    ensures { result ≡ fits new.now }
 {
-    if image.len() == SIZE {
-        return first_out(image) == ITEMS;
-    }
-    false
+    new.len() == SIZE && first_out(new).is_none()
 }
 
-// The place of the first item that is out of its range, or how many there are.
-pub(crate) fn first_out(image: &[u8]) -> usize
-    requires { length image.now ≡ size }
-    ensures { result ≡ first_out tops (items_in image.now) }
+// The place of the first item that is out of its range. (Its place is what is sought, and the item stands at it: so no iterator over items.)
+pub(crate) fn first_out(new: &[u8]) -> Option<usize>
+    requires { length new.now ≡ size }
+    ensures { IsPlace item_count (first_out tops (items_in new.now)) result }
 {
-    let mut k = 0;
-    while k < ITEMS {
-        if top(k) < xdr::item(image, k) {
-            return k;
+    for k in 0..ITEMS {
+        if top(k) < xdr::item(new, k) {
+            return Some(k);
         }
-        k += 1;
     }
-    k
+    None
 }
 
 // The most that item k may be: any stamp, a sensor's tops over and over, then those of the core.
@@ -46,13 +41,10 @@ fn top(k: usize) -> u32
     ensures { result ≡ item_at tops k }
 {
     if k == 0 {
-        return 4294967295;
+        return u32::MAX;
     }
     if k < FIRST_ORDER {
-        let sensor = sensors::tops();
-        let j = (k - 1) % sensors::ITEMS;
-        return sensor[j];
+        return sensors::tops()[(k - 1) % sensors::ITEMS];
     }
-    let j = k - FIRST_ORDER;
-    CORE_TOPS[j]
+    CORE_TOPS[k - FIRST_ORDER]
 }

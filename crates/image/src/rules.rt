@@ -3,8 +3,8 @@ ghost use Rattle.std.specs.Prelude.{false, ◌≡◌, ◌<◌, get_or};
 ghost use Rattle.common.specs.Lists.{all};
 ghost use Rattle.voter.specs.Counts.{count_rules};
 ghost use Rattle.voter.specs.declared.Voter.{Voter};
-ghost use Rattle.image.specs.Rules.{rules, rules_hold};
-ghost use Rattle.image.specs.Faults.{first_broken};
+ghost use Rattle.image.specs.Rules.{rule_count, rules, rules_hold};
+ghost use Rattle.image.specs.Faults.{first_broken, IsPlace};
 
 use crate::SENSORS;
 use controller::State;
@@ -12,40 +12,29 @@ use orders::Wanted;
 use voter::Voter;
 
 // There are so many rules.
-pub(crate) const RULES: usize = 7 + sensors::RULES;
+const RULES: usize = 7 + sensors::RULES;
 
 // Whether every rule is kept.
 pub(crate) fn hold(state: State) -> bool
     ensures { result ≡ rules_hold state }
 {
-    first_broken(state) == RULES
+    first_broken(state).is_none()
 }
 
-// The place of the first rule that is broken, or how many there are.
-pub(crate) fn first_broken(state: State) -> usize
-    ensures { result ≡ first_broken (rules state) }
+// The place of the first rule that is broken.
+pub(crate) fn first_broken(state: State) -> Option<usize>
+    ensures { IsPlace rule_count (first_broken (rules state)) result }
 {
-    let tests = tests(state);
-    let mut k = 0;
-    while k < RULES {
-        if !tests[k] {
-            return k;
-        }
-        k += 1;
-    }
-    k
+    tests(state).iter().position(|kept| !kept)
 }
 
 // The rules, each as a test.
 fn tests(state: State) -> [bool; RULES]
     ensures { result ≡ rules state }
 {
-    let voters = state.voters;
-    let core = state.core;
-    let orders = core.orders;
-    let place = core.place;
-    let doors = place.doors;
-    let red = core.cause != 0;
+    let place = state.core.place;
+    let orders = state.core.orders;
+    let red = state.core.cause != 0;
     let wanted = Wanted::at(place, red);
     let general = orders.general.on;
     [
@@ -54,11 +43,11 @@ fn tests(state: State) -> [bool; RULES]
         !orders.opens.on | (wanted.opens & general),
         !orders.retracts.on | (wanted.retracts & general),
         !orders.extends.on | (wanted.extends & general),
-        !(!doors.are_closed() & !red) | general,
+        !(!place.doors.are_closed() & !red) | general,
         !state.invalid() | red,
-        all_keep(voters, 0),
-        all_keep(voters, 1),
-        all_keep(voters, 2),
+        all_keep(state.voters, 0),
+        all_keep(state.voters, 1),
+        all_keep(state.voters, 2),
     ]
 }
 
@@ -67,12 +56,5 @@ fn all_keep(voters: [Voter; SENSORS], k: usize) -> bool
     requires { k < 3 }
     ensures { result ≡ all (λ (v : Voter). get_or (count_rules v) k false) voters }
 {
-    let mut kept = true;
-    let mut i = 0;
-    while i < SENSORS {
-        let rules = sensors::count_rules(voters[i]);
-        kept = kept & rules[k];
-        i += 1;
-    }
-    kept
+    voters.iter().all(|v| sensors::count_rules(*v)[k])
 }

@@ -2,13 +2,13 @@
 -- Assumes nothing.
 use Rattle.std.proofs.Common.{◌≡◌, ℕ, zero, suc, ◌≤◌, Bool, true, false, not, ◌&&◌, ◌||◌, ◌⊎◌, List, [], ◌∷◌, get_or, sym, refl, inl, inr, zero-le, arith, lit≤}
 use mathlib.Core.Bool.{or-false, false≢true}
-use mathlib.Core.Option.{Option, none, some}
+use Rattle.std.specs.Prelude.{Option, None, Some, is_some}
 use Rattle.common.specs.Lists.{some as some_of, Each, each_from}
 use Rattle.orders.specs.declared.Orders.{Orders}
 use Rattle.cylinder.specs.declared.Cylinder.{Cylinder}
 use Rattle.cylinder.specs.declared.Drive.TheVariants.{Hold}
 use Rattle.cylinder.specs.Fractions.{stroke}
-use Rattle.cylinder.specs.Moves.{is_taken, is_position, is_rate, is_sound, cylinder_at, BadCylinder, BadDrive, InParts}
+use Rattle.cylinder.specs.Moves.{is_position, is_rate, is_sound, cylinder_at, BadCylinder, BadDrive, InParts}
 use Rattle.cylinder.proofs.Taken.{none_is_not_some, position_of_fraction, shown_of_fraction}
 use Rattle.cylinder.proofs.Laws.{held_by_parts, else_moved, handed_out}
 use Rattle.joined.specs.declared.Given.{Given}
@@ -25,15 +25,15 @@ neither : (a b : Bool) → (a || b) ≡ false → (a ≡ false) × (b ≡ false)
 neither true b h = absurd (false≢true (sym h))
 neither false b h = (refl, h)
 
-taken : (parts : Option ℕ) → not (is_taken parts) ≡ false → parts ≡ none → ⊥
-taken none h e = false≢true (sym h)
-taken (some n) h e = none_is_not_some (sym e)
+taken : (parts : Option ℕ) → not (is_some parts) ≡ false → parts ≡ None → ⊥
+taken None h e = false≢true (sym h)
+taken (Some n) h e = none_is_not_some (sym e)
 
-both_taken : (position rate : Option ℕ) → not (is_taken position && is_taken rate) ≡ false → (position ≡ none) ⊎ (rate ≡ none) → ⊥
-both_taken none rate h bad = false≢true (sym h)
-both_taken (some k) none h bad = false≢true (sym h)
-both_taken (some k) (some n) h (inl e) = none_is_not_some (sym e)
-both_taken (some k) (some n) h (inr e) = none_is_not_some (sym e)
+both_taken : (position rate : Option ℕ) → not (is_some position && is_some rate) ≡ false → (position ≡ None) ⊎ (rate ≡ None) → ⊥
+both_taken None rate h bad = false≢true (sym h)
+both_taken (Some k) None h bad = false≢true (sym h)
+both_taken (Some k) (Some n) h (inl e) = none_is_not_some (sym e)
+both_taken (Some k) (Some n) h (inr e) = none_is_not_some (sym e)
 
 sound_is_not_bad : (c : Cylinder) → is_unsound c ≡ false → BadCylinder c → ⊥
 unfolding is_unsound is_sound

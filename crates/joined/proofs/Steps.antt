@@ -5,13 +5,13 @@ use Rattle.std.proofs.Common.{◌≡◌, ℕ, Bool, true, false, cond, T, eqb, l
 use borrow.Author.Tests.{eqb-false}
 use Rattle.common.specs.Bits.{bit}
 use Rattle.common.specs.Lists.{some}
-use Rattle.controller.specs.declared.Answer.{Answer}
+use Rattle.controller.specs.Answers.{Answer}
 use Rattle.controller.specs.Samples.{agreeing}
 use Rattle.controller.specs.Steps.{some_over_one, refusal_at as controller_refusal_at, step_at as controller_step_at}
 use Rattle.cylinder.specs.declared.Cylinder.{Cylinder}
 use Rattle.joined.specs.declared.Given.{Given}
 use Rattle.joined.specs.declared.Rig.{Rig}
-use Rattle.joined.specs.declared.Stepped.{Stepped}
+use Rattle.joined.specs.Answers.{Stepped}
 use Rattle.joined.specs.Drives.{some_bad}
 use Rattle.joined.specs.Sensors.{seen_out, seen_in, sensors_of, sample_of}
 use Rattle.joined.specs.Rigs.{elapsed_at, read_at, kept, answered_by, step_at, refusal_at, accepted_rig, Accepted}

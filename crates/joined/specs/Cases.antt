@@ -14,7 +14,7 @@ use Rattle.cylinder.specs.Cases.{with_bits, parts_shown, handed_in}
 use Rattle.joined.specs.declared.Given.{Given}
 use Rattle.joined.specs.declared.Given.TheVariants.{Rate, StuckAt}
 use Rattle.joined.specs.declared.Rig.{Rig}
-use Rattle.joined.specs.declared.Stepped.{Stepped}
+use Rattle.joined.specs.Answers.{Stepped}
 use Rattle.joined.specs.Rigs.{start_of, step_of}
 use Rattle.joined.specs.Drawn.{floats_of, drawn_of}
 

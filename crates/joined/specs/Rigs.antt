@@ -4,7 +4,7 @@ use Rattle.std.specs.Prelude.{◌≡◌, ℕ, ◌≤◌, Bool, true, false, cond
 use Rattle.std.specs.Bool.{beq}
 use Rattle.orders.specs.Timing.{oldest, grown_age}
 use Rattle.controller.specs.declared.State.{State}
-use Rattle.controller.specs.declared.Answer.{Answer}
+use Rattle.controller.specs.Answers.{Answer}
 use Rattle.controller.specs.Start.{fresh_of}
 use Rattle.controller.specs.Stages.{elapsed_of, accepted}
 use Rattle.controller.specs.Steps.{limit, some_over_one, step_at as controller_step_at}
@@ -14,7 +14,7 @@ use Rattle.cylinder.specs.Fractions.{stroke}
 use Rattle.cylinder.specs.Moves.{cylinder_at}
 use Rattle.joined.specs.declared.Given.{Given}
 use Rattle.joined.specs.declared.Rig.{Rig}
-use Rattle.joined.specs.declared.Stepped.{Stepped}
+use Rattle.joined.specs.Answers.{Stepped}
 use Rattle.joined.specs.Drives.{some_bad, six_moved}
 use Rattle.joined.specs.Sensors.{sample_of}
 

@@ -2,8 +2,7 @@
 -- retracted. Channels agree, absorbers say flight, pressure is general_EV as it stood before the step, the switch is closed from the step of a
 -- handle move while less than 20,000 ms have passed since."
 -- Assumes nothing.
-use Rattle.std.specs.Prelude.{ℕ, Bool, false, List, [], ◌∷◌, ◌==◌, nat_lt, slice_index_or}
-use Rattle.std.proofs.Math.Option.{Option, none, some}
+use Rattle.std.specs.Prelude.{ℕ, Bool, false, List, [], ◌∷◌, ◌==◌, nat_lt, Option, None, Some, slice_index_or}
 use Rattle.common.specs.Bits.{bit}
 use Rattle.controller.specs.Samples.{agreeing}
 use Rattle.cylinder.specs.declared.Cylinder.{Cylinder}
@@ -14,8 +13,8 @@ use Rattle.cylinder.specs.Moves.{position_parts, cylinder_at}
 
 -- It stands at exactly so many parts.
 abbrev pub is_at : ℕ → Option ℕ → Bool
-is_at n none = false
-is_at n (some k) = k == n
+is_at n None = false
+is_at n (Some k) = k == n
 
 unfoldable pub stands_at : ℕ → Cylinder → Bool
 stands_at n c = is_at n (position_parts c.position)

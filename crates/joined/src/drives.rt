@@ -1,21 +1,22 @@
 // What each of the six cylinders is told in a step, and where they stand after it (specs/Drives.antt).
 ghost use Rattle.std.specs.Prelude.{◌≡◌};
-ghost use Rattle.common.specs.Lists.{some};
-ghost use Rattle.joined.specs.Drives.{outward, inward, ordered, drive_by, is_bad, is_unsound, some_bad, moved_or, six_moved};
-ghost use Rattle.cylinder.specs.Answers.{moved_says};
+ghost use Rattle.refusals.specs.Answers.{says};
+ghost use Rattle.joined.specs.Drives.{outward, inward, ordered, drive_by, is_bad, some_bad, moved_or, six_moved};
 
 use crate::Given;
-use cylinder::{Cylinder, Drive, Moved};
+use cylinder::{Cylinder, Drive};
 use orders::Orders;
 
 // Whether any of the six is bad, as it is given or as it is handed in.
+#[tactic(auto, using(common::proofs::Searches::some_is_any), unfolding(crate::specs::Drives::some_bad, crate::specs::Drives::is_unsound))]
 pub(crate) fn some_bad(given: [Given; 6], cylinders: [Cylinder; 6]) -> bool
     ensures { result ≡ some_bad given cylinders }
 {
-    some_bad_given(given) | some_unsound(cylinders)
+    given.iter().any(|g| is_bad(*g)) || cylinders.iter().any(|c| !c.is_sound())
 }
 
-// All six after so many ms.
+// All six after so many ms. (A move that is refused leaves its cylinder. By its number, since
+// which orders move it goes by that.)
 pub(crate) fn six_moved(
     orders: Orders,
     given: [Given; 6],
@@ -25,48 +26,17 @@ pub(crate) fn six_moved(
     ensures { result ≡ six_moved orders given elapsed cylinders }
 {
     let mut after = cylinders;
-    let mut i = 0;
-    while i < 6 {
-        let g = given[i];
-        let c = after[i];
-        after[i] = moved_or(
-            c,
-            c.moved(drive_by(outward(orders, i), inward(orders, i), g), elapsed),
-        );
-        i += 1;
+    for i in 0..6 {
+        let before = after[i];
+        after[i] = before
+            .moved(drive_by(orders, i, given[i]), elapsed)
+            .unwrap_or(before);
     }
     after
 }
 
-// Whether any of the six is given what is no rate, or no position.
-fn some_bad_given(given: [Given; 6]) -> bool
-    ensures { result ≡ some is_bad given }
-{
-    let mut seen = false;
-    let mut i = 0;
-    while i < 6 {
-        let g = given[i];
-        seen = seen | is_bad(g);
-        i += 1;
-    }
-    seen
-}
-
-// Whether any of the six is handed in with floats that are none of a cylinder's.
-fn some_unsound(cylinders: [Cylinder; 6]) -> bool
-    ensures { result ≡ some is_unsound cylinders }
-{
-    let mut seen = false;
-    let mut i = 0;
-    while i < 6 {
-        let c = cylinders[i];
-        seen = seen | !c.is_sound();
-        i += 1;
-    }
-    seen
-}
-
 // Whether what is given is no rate, or no position.
+#[tactic(auto, unfolding(crate::specs::Drives::is_bad))]
 fn is_bad(given: Given) -> bool
     ensures { result ≡ is_bad given }
 {
@@ -76,55 +46,25 @@ fn is_bad(given: Given) -> bool
     }
 }
 
-// Whether the order that moves cylinder i out is on.
-fn outward(orders: Orders, i: usize) -> bool
-    ensures { result ≡ outward orders i }
+// What cylinder i is told: to move at its rate by the order that is on, out or in, or to be stuck.
+#[tactic(auto, unfolding(crate::specs::Drives::ordered))]
+fn drive_by(orders: Orders, i: usize, given: Given) -> Drive
+    ensures { result ≡ drive_by (outward orders i) (inward orders i) given }
 {
-    if i < 3 {
-        return orders.opens.on;
-    }
-    orders.extends.on
-}
-
-// Whether the order that moves it in is on.
-fn inward(orders: Orders, i: usize) -> bool
-    ensures { result ≡ inward orders i }
-{
-    if i < 3 {
-        return orders.closes.on;
-    }
-    orders.retracts.on
-}
-
-// What a cylinder is told with a rate, by the two orders.
-fn ordered(outward: bool, inward: bool, rate: f32) -> Drive
-    ensures { result ≡ ordered outward inward rate }
-{
+    let rate = match given {
+        Given::Rate(rate) => rate,
+        Given::StuckAt(position) => return Drive::Stuck(position),
+    };
+    let (outward, inward) = if i < 3 {
+        (orders.opens.on, orders.closes.on)
+    } else {
+        (orders.extends.on, orders.retracts.on)
+    };
     if outward {
-        return Drive::Out(rate);
-    }
-    if inward {
-        return Drive::In(rate);
-    }
-    Drive::Hold
-}
-
-// The same by what it is given.
-fn drive_by(outward: bool, inward: bool, given: Given) -> Drive
-    ensures { result ≡ drive_by outward inward given }
-{
-    match given {
-        Given::Rate(rate) => ordered(outward, inward, rate),
-        Given::StuckAt(position) => Drive::Stuck(position),
-    }
-}
-
-// The cylinder after its move, or as it was.
-fn moved_or(before: Cylinder, moved: Moved) -> Cylinder
-    ensures { result ≡ moved_or before (moved_says moved) }
-{
-    match moved {
-        Moved::To(after) => after,
-        Moved::Refused => before,
+        Drive::Out(rate)
+    } else if inward {
+        Drive::In(rate)
+    } else {
+        Drive::Hold
     }
 }

@@ -5,16 +5,19 @@
 #![tactic(auto)]
 
 ghost use Rattle.std.specs.Prelude.{◌≡◌};
-ghost use Rattle.joined.specs.Rigs.{start_of, elapsed_at, since_move, read_at, answered_by, step_of};
+ghost use Rattle.refusals.specs.Answers.{code_of};
+ghost use Rattle.joined.specs.Answers.{step_says};
+ghost use Rattle.joined.specs.Rigs.{start_of, elapsed_at, since_move, read_at, step_of};
 ghost use Rattle.joined.specs.Drawn.{drawn_of};
 
 mod drawings;
 mod drives;
 mod sensors;
 
-use controller::{Answer, State};
+use controller::State;
 use cylinder::Cylinder;
 use orders::OLDEST;
+use refusals::Refusal;
 
 // What a cylinder is given in a step: the rate at which the orders move it, or the position at which it is stuck.
 #[derive(Clone, Copy)]
@@ -34,15 +37,9 @@ pub struct Rig {
     pub controller: State,
 }
 
-// What a step answers: 0 or its refusal's number, and the rig after it.
-#[derive(Clone, Copy)]
-pub struct Stepped {
-    pub refusal: u8,
-    pub rig: Rig,
-}
-
 impl Rig {
     // Doors at 0, gears at 1, handle down, switch open, a fresh controller at a stamp.
+    #[tactic(auto, unfolding(crate::specs::Rigs::start_of, crate::specs::Rigs::start_cylinders))]
     pub fn start(stamp: u32) -> Self
         ensures { result ≡ start_of stamp }
     {
@@ -58,52 +55,46 @@ impl Rig {
         }
     }
 
-    // One step: refused by its number with the rig as it was, or accepted.
-    pub fn step(self, stamp: u32, down: bool, given: [Given; 6]) -> Stepped
-        ensures { result ≡ step_of self stamp down given }
+    // One step: the rig after it, or the first refusal that applies.
+    #[tactic(auto, unfolding(crate::specs::Rigs::step_at, crate::specs::Rigs::answered_by))]
+    pub fn step(self, stamp: u32, down: bool, given: [Given; 6]) -> Result<Self, Refusal>
+        ensures { step_says self result ≡ step_of self stamp down given }
     {
-        let cylinders = self.cylinders;
-        if drives::some_bad(given, cylinders) {
-            return Stepped {
-                refusal: 13,
-                rig: self,
-            };
+        if drives::some_bad(given, self.cylinders) {
+            return Err(Refusal::Fraction);
         }
         let read = self.read(stamp, down, given);
-        let sample = read.sample;
-        let controller = self.controller;
-        Rig::answered(self, read, controller.step(stamp, &sample))
+        let controller = self.controller.step(stamp, &read.sample)?;
+        Ok(Rig { controller, ..read })
     }
 
-    // Position and rate of the six, in front of a lent buffer: 0, or 8 where it has not twelve places.
-    pub fn draw(self, out: &mut [f32]) -> u8
-        ensures { (result, out.new) ≡ drawn_of self.cylinders out.old }
+    // Position and rate of the six, in front of a lent buffer; refused where it has not twelve places.
+    pub fn draw(self, out: &mut [f32]) -> Result<(), Refusal>
+        ensures { (code_of result, out.new) ≡ drawn_of self.cylinders out.old }
     {
-        let cylinders = self.cylinders;
-        drawings::draw(cylinders, out)
+        drawings::draw(self.cylinders, out)
     }
 
     // The rig as a step leaves it but for its controller: moved, and its sensors read.
+    #[tactic(auto, unfolding(crate::specs::Rigs::read_at, crate::specs::Rigs::moved_at))]
     fn read(self, stamp: u32, down: bool, given: [Given; 6]) -> Self
         ensures { result ≡ read_at self stamp down given }
     {
-        let controller = self.controller;
-        let before = self.cylinders;
-        let orders = controller.core.orders;
+        let orders = self.controller.core.orders;
         let pressure = orders.general.on;
-        let elapsed = self.elapsed(stamp);
-        let cylinders = drives::six_moved(orders, given, elapsed, before);
+        let cylinders = drives::six_moved(orders, given, self.elapsed(stamp), self.cylinders);
         let since = self.since_move(stamp, down);
         Rig {
             cylinders,
             down,
             since,
             sample: sensors::sample(down, since, pressure, cylinders),
-            controller,
+            controller: self.controller,
         }
     }
 
     // For how many ms the handle has not moved, at this step.
+    #[tactic(auto, unfolding(crate::specs::Rigs::since_move))]
     fn since_move(self, stamp: u32, down: bool) -> u32
         ensures { result ≡ since_move self stamp down }
     {
@@ -114,35 +105,10 @@ impl Rig {
     }
 
     // What has elapsed since the last accepted step.
+    #[tactic(auto, unfolding(controller::specs::Stages::elapsed_of))]
     fn elapsed(self, stamp: u32) -> u32
         ensures { result ≡ elapsed_at self stamp }
     {
-        let controller = self.controller;
-        std::num::wrapping_sub_u32(stamp, controller.stamp)
-    }
-
-    // By the controller's answer to the sensors that were read.
-    fn answered(before: Self, read: Self, answer: Answer) -> Stepped
-        ensures { result ≡ answered_by before read answer }
-    {
-        if answer.refusal != 0 {
-            return Stepped {
-                refusal: answer.refusal,
-                rig: before,
-            };
-        }
-        let cylinders = read.cylinders;
-        let sample = read.sample;
-        let controller = answer.state;
-        Stepped {
-            refusal: 0,
-            rig: Rig {
-                cylinders,
-                down: read.down,
-                since: read.since,
-                sample,
-                controller,
-            },
-        }
+        stamp.wrapping_sub(self.controller.stamp)
     }
 }

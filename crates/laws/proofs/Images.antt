@@ -6,7 +6,7 @@ use native.Mathlib.Omega.{arith}
 use mathlib.Core.List.{List, [], ◌∷◌}
 use mathlib.Core.Path.{◌≡◌, refl, sym, ap}
 use Rattle.controller.specs.declared.State.{State}
-use Rattle.controller.specs.declared.Answer.{Answer}
+use Rattle.controller.specs.Answers.{Answer}
 use Rattle.controller.specs.Start.{started_at}
 use Rattle.controller.specs.Stages.{elapsed_of, accepted}
 use Rattle.controller.specs.Steps.{refusal_at, refusal_of, step_at, step_of}

@@ -7,6 +7,7 @@ use mathlib.Core.Path.{◌≡◌, refl, ◌∙◌, subst, subst⁻¹}
 use Prim.Native.Nat.{ℕ, ◌+◌, ◌≤◌, ◌<◌, zero-le, min}
 use native.Mathlib.Omega.{arith}
 use lib.Dec.{T, leb, eqb, leb→le, nleb→lt, T_not, not_T, lit<}
+use lib.Ieee.Bits.{is_true}
 use borrow.Author.Tests.{eq-eqb, le-leb}
 use mir.Facts.{and_yes}
 use Rattle.sequence.specs.declared.Place.{Place}
@@ -37,13 +38,9 @@ use Rattle.laws.proofs.Ages.{grown_or, next_age, at_most}
 
 -- ---- One accepted step of a red state
 
-true_of : (test : Bool) → T test → test ≡ true
-true_of true h = refl
-true_of false h = absurd h
-
 -- A latched cause: the old one where there was one, and then there is one.
 old_kept : (old new : ℕ) → T (not (eqb old 0)) → cond (not (eqb old 0)) old new ≡ old
-old_kept old new is_red = rw (true_of (not (eqb old 0)) is_red) refl
+old_kept old new is_red = rw (is_true (not (eqb old 0)) is_red) refl
 
 stays : (is_red : Bool) (p moved : Place) → is_red ≡ true → cond is_red p moved ≡ p
 stays is_red p moved e = rw e refl
@@ -67,7 +64,7 @@ module _ (s : State) (is_red : T (red s)) (stamp : ℕ) (bytes : List ℕ) where
 
   accepted_red : red (accepted s stamp bytes) ≡ true
   unfolding anomaly
-  accepted_red = rw accepted_cause (true_of (red s) is_red)
+  accepted_red = rw accepted_cause (is_true (red s) is_red)
 
   accepted_place : (accepted s stamp bytes).core.place ≡ s.core.place
   unfolding anomaly stages core_stages
@@ -151,7 +148,7 @@ Old ms os = (ms ≤ os.closes.age) × (ms ≤ os.opens.age) × (ms ≤ os.retrac
 -- Then they were off together long enough.
 off_for_lem : (elapsed ms : ℕ) (o : Order) → 1000 ≤ ms + elapsed → T (not o.on) → ms ≤ o.age → off_for 1000 (grown elapsed o) ≡ true
 unfolding off_for grown grown_age
-off_for_lem elapsed ms o long off old = rw (true_of (not o.on) off) (le-leb 1000 (grown_age elapsed o.age) (omega arith))
+off_for_lem elapsed ms o long off old = rw (is_true (not o.on) off) (le-leb 1000 (grown_age elapsed o.age) (omega arith))
 
 together :
     (elapsed ms : ℕ) (s : State) → 1000 ≤ ms + elapsed → FourOff s → Old ms s.core.orders →

@@ -18,7 +18,7 @@ use Rattle.orders.specs.Timing.{order, oldest}
 use Rattle.monitors.specs.declared.Three.{Three}
 use Rattle.monitors.specs.declared.Sight.{Sight}
 use Rattle.controller.specs.declared.Core.{Core}
-use Rattle.controller.specs.declared.Answer.{Answer}
+use Rattle.controller.specs.Answers.{Answer}
 use Rattle.controller.specs.Votes.{analogical_switch}
 use Rattle.controller.specs.Start.{fresh_of, fresh_orders}
 use Rattle.controller.specs.Stages.{elapsed_of, core_step}

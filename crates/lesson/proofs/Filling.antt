@@ -1,83 +1,10 @@
--- What the loop of `fill` has to know: what a turn gives, by the call of `take` on the rest of the part and of the output buffer, and that the
--- turns come to the answer (proofs/Fills.antt of the crate `reading`).
+-- Of what comes to nothing nothing is written.
 -- Assumes nothing.
-use Prim.Native.Nat.{ℕ, ◌+◌, ◌-◌, ◌<◌, ◌≤◌}
-use native.Mathlib.Omega.{arith}
-use mathlib.Core.Bool.{true, false}
-use mathlib.Core.List.{List, [], ◌++◌, append-nil}
-use mathlib.Core.Path.{◌≡◌, refl, sym, ap, subst, ◌∙◌}
-use lib.ListN.{length, take, drop, length-take, length-drop, drop_of_length-le}
-use lib.Seq.{take_all}
+use mathlib.Core.List.{[]}
+use mathlib.Core.Path.{◌≡◌, refl}
 use Rattle.controller.specs.declared.State.{State}
 use Rattle.reading.specs.declared.Came.TheVariants.{Nothing}
-use Rattle.reading.specs.declared.Run.{Run}
-use Rattle.reading.specs.Runs.{Answer}
-use Rattle.reading.specs.Fills.{untouched, goes_on, fill_by}
-use Rattle.reading.proofs.Fills as fills
-use Rattle.lesson.specs.declared.Took.{Took}
 use Rattle.lesson.specs.Replay.{text_told}
-use Rattle.lesson.specs.Parts.{room, took_of, take_of, answer_of, turn_of, fill_of}
 
--- Of what comes to nothing nothing is written.
 pub quiet : (a : Unit {0}) (before after : State) → text_told a before Nothing after ≡ (a, [])
 quiet a before after = refl
-
-module _ (took : Took) (part line out : List ℕ) where
-  -- The rest of the part, and of the output buffer, as they are lent.
-  abbrev part_left : List ℕ
-  part_left = take (length part - took.used) (drop took.used part)
-
-  abbrev out_left : List ℕ
-  out_left = take (length out - took.written) (drop took.written out)
-
-  -- What was taken in with a row, and the output buffer with what was lent put back.
-  abbrev with_row : Took × List ℕ × List ℕ → Took × List ℕ × List ℕ
-  with_row row = (
-    record {
-      run = row.0.run;
-      used = took.used + row.0.used;
-      written = took.written + row.0.written;
-      refusal = row.0.refusal;
-    },
-    row.1,
-    take took.written out ++ row.2,
-  )
-
-  pub turned : (row : Took) (line' lent : List ℕ) → (row, line', lent) ≡ take_of took.run part_left line out_left
-      → ((with_row (row, line', lent)).0, line', take took.written out ++ (lent ++ drop (length out - took.written) (drop took.written out)))
-      ≡ turn_of took part line out
-  unfolding take_of
-  turned row line' lent e =
-      let p = take_all (length part - took.used) (drop took.used part) (omega (arith, length-drop took.used part)) in
-      let o = take_all (length out - took.written) (drop took.written out) (omega (arith, length-drop took.written out)) in
-      let gone = drop_of_length-le (drop took.written out) {i = length out - took.written} (omega (arith, length-drop took.written out)) in
-      rw (gone, append-nil lent) (ap with_row (rw (p, o) at e))
-
-  -- It lies in the part and in the output buffer.
-  pub within : (row : Took) → took.used ≤ length part → took.written ≤ length out → (row.used ≤ length part_left) × (row.written ≤ length out_left)
-      → (took.used + row.used ≤ length part) × (took.written + row.written ≤ length out)
-  within row u w h =
-      let k = simp (length-take, length-drop) at h in (omega (arith, k.0), omega (arith, k.1))
-
-  -- The loop, where it reaches the answer.
-  module _ (answer : Answer (Unit {0})) (r : fills.Reaches text_told quiet room part answer (answer_of took line out)) where
-    pub again : (next : Took) (line' out' : List ℕ) → goes_on room part (answer_of took line out) ≡ true
-        → (next, line', out') ≡ turn_of took part line out
-        → fills.Reaches text_told quiet room part answer (answer_of next line' out') × (took.used < next.used)
-    again next line' out' t e =
-        let l = fills.loop_again text_told quiet room part answer (answer_of took line out) r t in
-        subst
-        (λ (x : Took × List ℕ × List ℕ).
-        fills.Reaches text_told quiet room part answer (answer_of x.0 x.1 x.2) × (took.used < x.0.used))
-        (sym e) (l.0, omega (arith, l.1))
-
-    pub ends : goes_on room part (answer_of took line out) ≡ false → (took, line, out) ≡ took_of answer
-    ends t = ap took_of (fills.loop_ends text_told quiet room part answer (answer_of took line out) r t)
-
--- A buffer that is refused.
-module _ (run : Run) (part line out : List ℕ) where
-  pub sent_back : (r : Took) → fill_by text_told room Prim.tt run part line out ≡ untouched 8 Prim.tt run line out
-      → r ≡ record { run = run; used = 0; written = 0; refusal = 8 }
-      → ((r, line, out) ≡ fill_of run part line out) × ((r.used ≤ length part) × (r.written ≤ length out))
-  unfolding fill_of
-  sent_back r e f = (ap (λ (t : Took). (t, line, out)) f ∙ ap took_of (sym e), rw f (omega arith, omega arith))

@@ -22,7 +22,7 @@ use Rattle.reading.specs.Runs.{Outcome, AllRoom, input_of}
 use Rattle.reading.specs.Fills.{goes_on, Filled, Finished}
 use Rattle.reading.proofs.ByParts as by
 use Rattle.reading.proofs.Fills as fills
-use Rattle.lesson.specs.declared.Took.{Took}
+use Rattle.lesson.specs.Answers.{Took}
 use Rattle.lesson.specs.Replay.{text_told, written_of, replay_of, resumed_of}
 use Rattle.lesson.specs.Parts.{room, finish_of, answer_of, fill_of, written_in_all, left_in_all}
 use Rattle.lesson.proofs.Filling.{quiet}

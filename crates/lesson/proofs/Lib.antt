@@ -2,6 +2,5 @@ pub mod Law
 pub mod Once
 pub mod Restarts
 pub mod Worked
-pub mod Telling
 pub mod Writing
 pub mod Filling

@@ -1,13 +1,12 @@
 -- Document 01, "Session S", as the whole input and the whole output with the lamps of request K1; a part of it that is handed over
 -- (request K3); and short inputs that end early.
 -- Assumes nothing.
-use Rattle.std.specs.Prelude.{List, [], ◌∷◌, ◌++◌, ℕ, take, drop, replicate}
+use Rattle.std.specs.Prelude.{List, [], ◌∷◌, ◌++◌, ℕ, take, drop, replicate, Some}
 use Prim.Native.String.{String}
 use Rattle.common.specs.Ascii.{ascii, cr, lf, ended}
 use Rattle.common.specs.Case.{Case}
 use Rattle.common.specs.Decimal.{digit0}
 use Rattle.lines.specs.Rows.{rows_of}
-use Rattle.trace.specs.declared.Due.TheVariants.{Label}
 use Rattle.trace.specs.Header.{header_text as trace_header}
 use Rattle.controller.specs.Start.{fresh_of}
 use Rattle.output.specs.Rows.{header_text}
@@ -93,7 +92,7 @@ after_the_last_label =
     record {
       name = "after the last label";
       gives =
-          written_of (record { phase = Rows (Label 4294967295); state = fresh_of 1000 })
+          written_of (record { phase = Rows (Some 4294967295); state = fresh_of 1000 })
           ((ascii "4294967295,1100," ++ at_rest) ∷ (ascii "0,1200," ++ at_rest) ∷ []);
       wanted = ended (ascii "4294967295,0,0,0,0,0,0,CLOSED,EXTENDED,1,0,0" ∷ ascii "4294967298,7,,,,,,,,,," ∷ []);
     }

@@ -1,3 +1,4 @@
+pub mod Answers
 pub mod Replay
 pub mod Parts
 pub mod Writes

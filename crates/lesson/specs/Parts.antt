@@ -4,8 +4,8 @@
 use Rattle.std.specs.Prelude.{ℕ, List}
 use Rattle.reading.specs.declared.Run.{Run}
 use Rattle.reading.specs.Runs.{Answer, take_by, finish_by, in_all}
-use Rattle.reading.specs.Fills.{turn_from, fill_by}
-use Rattle.lesson.specs.declared.Took.{Took}
+use Rattle.reading.specs.Fills.{fill_by}
+use Rattle.lesson.specs.Answers.{Took}
 use Rattle.lesson.specs.Replay.{text_told}
 
 -- An output row has at most 64 bytes.
@@ -38,10 +38,6 @@ answer_of took line out = (
   line,
   out,
 )
-
--- One row more.
-abbrev pub turn_of : Took → List ℕ → List ℕ → List ℕ → Took × List ℕ × List ℕ
-turn_of took part line out = took_of (turn_from text_told room part (answer_of took line out))
 
 -- The part row by row, as far as there is room.
 unfoldable pub fill_of : Run → List ℕ → List ℕ → List ℕ → Took × List ℕ × List ℕ

@@ -5,154 +5,88 @@
 // also go on from a controller that was handed over, and the controller that it leaves may be saved.
 #![tactic(auto)]
 
-ghost use Rattle.std.specs.Prelude.{◌≡◌, ◌-◌, ◌≤◌, ◌&&◌, not, leb, ltb, length};
-ghost use Rattle.reading.specs.Rows.{has_ended};
-ghost use Rattle.lesson.specs.Replay.{text_by};
-ghost use Rattle.lesson.specs.Parts.{take_of, finish_of, turn_of, fill_of};
-ghost use Rattle.lesson.specs.Writes.{bytes_of, told};
+ghost use Rattle.std.specs.Prelude.{◌≡◌, ◌≤◌, length, refl};
+ghost use Rattle.lesson.specs.Answers.{took_says};
+ghost use Rattle.lesson.specs.Replay.{text_told};
+ghost use Rattle.lesson.specs.Parts.{take_of, finish_of, fill_of};
 
-use output::Written;
-use reading::{Came, Next, Run};
+use controller::State;
+use reading::telling::{self, Tell};
+use reading::{Came, Run};
+use refusals::Refusal;
 
 // What is written of a row has at most so many bytes.
 pub const ROOM: usize = 64;
 
-// What a call gives: the run after it, how much of the part is used, how many bytes were written, and 0 or refusal 8.
+// What a call gives: the run after it, how much of the part is used, and how many bytes were written.
 #[derive(Clone, Copy)]
 pub struct Took {
     pub run: Run,
     pub used: usize,
     pub written: usize,
-    pub refusal: u8,
 }
 
 // Takes in a part of the input up to the end of its first row, or all of it, through a line buffer of 512 bytes, and writes what the row
 // gives. The output buffer must have 64 bytes; the rest of the part is for the next call. After a refusal of a row the rest gives nothing.
-pub fn take(run: Run, part: &[u8], line: &mut [u8], out: &mut [u8]) -> Took
-    ensures out_after { (result, line.new, out.new) ≡ take_of run part.now line.old out.old }
-    ensures used_in_bounds { (result.used ≤ length part.now) × (result.written ≤ length out.old) }
+#[tactic(auto, unfolding(crate::specs::Parts::take_of))]
+pub fn take(run: Run, part: &[u8], line: &mut [u8], out: &mut [u8]) -> Result<Took, Refusal>
+    ensures out_after { (took_says run result, line.new, out.new) ≡ take_of run part.now line.old out.old }
+    ensures used_in_bounds { ((took_says run result).used ≤ length part.now) × ((took_says run result).written ≤ length out.old) }
 {
-    if out.len() < ROOM {
-        return refused(run);
-    }
-    let next = run.take(part, line);
-    let written = tell(next, out);
-    taken_in(next, written)
+    Ok(of_run(telling::take::<Rows>((), run, part, line, out)?))
 }
 
 // The end of the input: what is still in the line buffer is the last row. The output buffer must have 64 bytes.
-pub fn finish(run: Run, line: &mut [u8], out: &mut [u8]) -> Took
-    ensures out_after { (result, line.new, out.new) ≡ finish_of run line.old out.old }
-    ensures written_in_bounds { result.written ≤ length out.old }
+#[tactic(auto, unfolding(crate::specs::Parts::finish_of))]
+pub fn finish(run: Run, line: &mut [u8], out: &mut [u8]) -> Result<Took, Refusal>
+    ensures out_after { (took_says run result, line.new, out.new) ≡ finish_of run line.old out.old }
+    ensures written_in_bounds { (took_says run result).written ≤ length out.old }
 {
-    if out.len() < ROOM {
-        return refused(run);
-    }
-    let next = run.finish(line);
-    let written = tell(next, out);
-    taken_in(next, written)
+    Ok(of_run(telling::finish::<Rows>((), run, line, out)?))
 }
 
 // Takes in a part of the input row by row, and writes what the rows give, each text behind the one before it, until the part is used up, a
 // refusal of a row has ended the reading, or less than 64 bytes are left in the output buffer. What is left of the part is for the next call.
-pub fn fill(run: Run, part: &[u8], line: &mut [u8], out: &mut [u8]) -> Took
-    ensures out_after { (result, line.new, out.new) ≡ fill_of run part.now line.old out.old }
-    ensures used_in_bounds { (result.used ≤ length part.now) × (result.written ≤ length out.old) }
+#[tactic(auto, unfolding(crate::specs::Parts::fill_of))]
+pub fn fill(run: Run, part: &[u8], line: &mut [u8], out: &mut [u8]) -> Result<Took, Refusal>
+    ensures out_after { (took_says run result, line.new, out.new) ≡ fill_of run part.now line.old out.old }
+    ensures used_in_bounds { ((took_says run result).used ≤ length part.now) × ((took_says run result).written ≤ length out.old) }
 {
-    if out.len() < ROOM {
-        return refused(run);
-    }
-    if line.len() != reading::LINE {
-        return refused(run);
-    }
-    let mut took = Took {
-        run,
-        used: 0,
-        written: 0,
-        refusal: 0,
-    };
-    while goes_on(took, part.len(), out.len()) {
-        took = turn(took, part, line, out);
-    }
-    took
+    Ok(of_run(telling::fill::<Rows>((), run, part, line, out)?))
 }
 
-// Whether there is a further row to take in: some of the part is left, there is room, and no refusal has ended the reading.
-fn goes_on(took: Took, size: usize, bytes: usize) -> bool
-    requires { took.written ≤ bytes }
-    ensures { result ≡ (ltb took.used size && leb 64 (bytes - took.written) && not (has_ended took.run.reading.phase)) }
-{
-    let run = took.run;
-    let phase = run.phase();
-    (took.used < size) & (ROOM <= bytes - took.written) & !phase.has_ended()
-}
-
-// The next row of the part, written behind what is written.
-fn turn(took: Took, part: &[u8], line: &mut [u8], out: &mut [u8]) -> Took
-    requires { (took.used ≤ length part.now) × (took.written ≤ length out.old) }
-    ensures out_after { (result, line.new, out.new) ≡ turn_of took part.now line.old out.old }
-    ensures used_in_bounds { (result.used ≤ length part.now) × (result.written ≤ length out.old) }
-{
-    let from = took.used;
-    let at = took.written;
-    let row = take(took.run, &part[from..], line, &mut out[at..]);
-    let run = row.run;
-    Took {
-        run,
-        used: from + row.used,
-        written: at + row.written,
-        refusal: row.refusal,
-    }
-}
-
-// An output buffer that has no room, or a line buffer that is not 512 bytes.
-fn refused(run: Run) -> Took
-    ensures { result ≡ record { run = run; used = 0; written = 0; refusal = 8 } }
+// What a call gives, where nothing is carried on. (`take`, `finish` and `fill` are one call of `telling` each, under contracts of their own.)
+fn of_run(took: telling::Took<()>) -> Took
+    ensures { result ≡ record { run = took.run; used = took.used; written = took.written } }
 {
     Took {
-        run,
-        used: 0,
-        written: 0,
-        refusal: 8,
+        run: took.run,
+        used: took.used,
+        written: took.written,
     }
 }
 
-// What was taken in, and what is written of it.
-fn taken_in(next: Next, written: usize) -> Took
-    ensures { result ≡ record { run = next.run; used = next.used; written = written; refusal = next.refusal } }
-{
-    let run = next.run;
-    Took {
-        run,
-        used: next.used,
-        written,
-        refusal: next.refusal,
-    }
-}
+// Of each row its text is written, and nothing is carried on.
+struct Rows;
 
-// Writes what a row came to, and answers how many bytes that is.
-fn tell(next: Next, out: &mut [u8]) -> usize
-    requires { 64 ≤ length out.old }
-    ensures { (result, out.new) ≡ told (text_by next.came next.run.reading.state) out.old }
-{
-    let came = next.came;
-    let run = next.run;
-    match came {
-        Came::Nothing => 0,
-        Came::Answered { label, code } => {
-            let state = run.state();
-            bytes_of(output::write_row(label, code, state.shown(), out))
-        }
-        Came::Refused { line, refusal } => bytes_of(output::write_refusal(line, refusal, out)),
-    }
-}
+impl Tell for Rows {
+    type Carried = ();
 
-// How many bytes a writer wrote.
-fn bytes_of(w: Written) -> usize
-    ensures { result ≡ bytes_of w }
-{
-    match w {
-        Written::Bytes(n) => n,
-        Written::NoRoom => 0,
+    const ROOM: usize = ROOM;
+
+    ghost ROOM = { 64 };
+
+    ghost told = { text_told };
+
+    #[tactic(auto, using(crate::proofs::Writing::row_fits, crate::proofs::Writing::refusal_fits), unfolding(output::specs::Rows::written))]
+    fn tell(_carried: (), _before: State, came: Came, after: State, out: &mut [u8]) -> ((), usize) {
+        let wrote = match came {
+            Came::Nothing => Ok(0),
+            Came::Answered { label, code } => output::write_row(label, code, after.shown(), out),
+            Came::Refused { line, refusal } => output::write_refusal(line, refusal, out),
+        };
+        ((), wrote.unwrap_or(0))
     }
+
+    ghost quiet = { λ a before after. refl };
 }

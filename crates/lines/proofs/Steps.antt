@@ -77,6 +77,9 @@ module _ (s line : List ℕ) (n b at : ℕ) where
       let left : length s - length (drop (at + 1) s) ≡ at + 1 = simp length-drop (omega arith) in
       rw (here s at h) (on_break (length s) line n b (get_or s at 0) (drop (at + 1) s) (simp (eq-eqb b cr e, eq-eqb (get_or s at 0) lf f)) ∙ rw left)
 
+-- What a byte does, behind a held CR or in turn.
+pub ruleset byte = (held_at, break_at, on_over, on_byte, no_lf, no_cr, here, gone, on_end)
+
 -- ---- The bytes in front of a CR
 
 -- Of the first `m` bytes, those in front of the first CR are bytes of the row: they are stored behind those in the line.
@@ -149,3 +152,6 @@ module _ {s : List ℕ} {from to i : ℕ} (p : Searched s from to i) (h : i < to
         inside = omega arith;
         same = p.same ∙ rw (← e, slice-cons i to s 0 h p.within, ne_eqb (get_or s i 0) cr n) (omega arith);
       }
+
+-- What a search does at a byte.
+pub ruleset search_on = (cr_here, cr_past)

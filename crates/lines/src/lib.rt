@@ -4,7 +4,7 @@
 // proofs/Parts.antt for a whole run.
 #![tactic(auto)]
 
-ghost use Rattle.std.specs.Prelude.{◌≡◌, ◌+◌, ◌≤◌, min, ◌∷◌, length, drop};
+ghost use Rattle.std.specs.Prelude.{◌≡◌, ◌+◌, ◌≤◌, ◌∷◌, length, drop};
 ghost use Rattle.spans.specs.Bytes.{index_of, slice};
 ghost use Rattle.common.specs.Ascii.{cr};
 ghost use Rattle.lines.specs.Cuts.{cut_from, cut_of, last_of};
@@ -13,7 +13,7 @@ const CR: u8 = 13;
 
 const LF: u8 = 10;
 
-// What taking in a part gives.
+// What taking in a part gives. (Three outcomes, and none an error: what a row comes to is told by the crate above.)
 #[derive(Clone, Copy)]
 pub enum Taken {
     // The row is whole: the first `len` bytes of the line. It ends in front of byte `used` of the part.
@@ -24,7 +24,7 @@ pub enum Taken {
     Over,
 }
 
-// What the end of the input gives.
+// What the end of the input gives. (Three outcomes too.)
 #[derive(Clone, Copy)]
 pub enum Final {
     // No row is under way.
@@ -36,11 +36,13 @@ pub enum Final {
 }
 
 // Takes the bytes of `part` from `from` on into `line`, behind its first `len` bytes and a held CR: up to the CRLF that
-// ends the row, the part's end, or the byte that makes the row longer than the line.
+// ends the row, the part's end, or the byte that makes the row longer than the line. (`len` and `cr` stand apart, here and in `reading::Run`,
+// as in the rules `cut_of` and `last_of` and in all theorems on them.)
+#[tactic(auto, unfolding(crate::specs::Cuts::cut_of))]
 pub fn cut(part: &[u8], from: usize, line: &mut [u8], len: usize, cr: bool) -> Taken
     ensures { (result, line.new) ≡ cut_of part.now from line.old len cr }
 {
-    let n = within(len, line.len());
+    let n = len.min(line.len());
     if cr {
         return follow(part, from, line, n);
     }
@@ -48,34 +50,28 @@ pub fn cut(part: &[u8], from: usize, line: &mut [u8], len: usize, cr: bool) -> T
 }
 
 // The end of the input: what the first `len` bytes of `line` and a held CR are as a last row.
+#[tactic(auto, unfolding(crate::specs::Cuts::last_of, crate::specs::Cuts::last_from))]
 pub fn last(line: &mut [u8], len: usize, cr: bool) -> Final
     ensures { (result, line.new) ≡ last_of line.old len cr }
 {
-    let n = within(len, line.len());
-    if cr {
-        if line.len() <= n {
-            return Final::Wider;
-        }
-        line[n] = CR;
-        return Final::Last { len: n + 1 };
+    let n = len.min(line.len());
+    if !cr {
+        return if n == 0 {
+            Final::Nothing
+        } else {
+            Final::Last { len: n }
+        };
     }
-    if n == 0 {
-        return Final::Nothing;
+    if n == line.len() {
+        return Final::Wider;
     }
-    Final::Last { len: n }
+    line[n] = CR;
+    Final::Last { len: n + 1 }
 }
 
-// The smaller of two lengths.
-fn within(len: usize, most: usize) -> usize
-    ensures { result ≡ min len most }
-{
-    if len < most {
-        return len;
-    }
-    most
-}
-
-// The place of the next CR in front of `to`, or `to`: four bytes a turn, since every byte of every row comes by here.
+// The place of the next CR in front of `to`, or `to`. Every byte of every row comes by here: four bytes a turn, for one a turn costs a row of
+// 85 bytes some 230 instructions more, of some 4,000 (docs/BENCH.md).
+#[tactic(auto, using(crate::proofs::Steps::search_on))]
 fn next_cr(part: &[u8], from: usize, to: usize) -> usize
     requires from_le_to { from ≤ to }
     requires to_in_bounds { to ≤ length part.now }
@@ -111,12 +107,13 @@ fn until_cr(part: &[u8], from: usize, line: &mut [u8], len: usize) -> usize
     ensures part_value { cut_from (length part.now) line.old len (drop from part.now)
         ≡ cut_from (length part.now) line.new (len + result) (drop (from + result) part.now) }
 {
-    let most = within(part.len() - from, line.len() - len);
+    let most = (part.len() - from).min(line.len() - len);
     let end = next_cr(part, from, from + most);
     spans::copy(&part[from..end], &mut line[len..])
 }
 
-// Takes in bytes where no CR is held: in each turn one byte, and those behind it up to the next CR.
+// Takes in bytes where no CR is held: in each turn one byte, and those behind it up to the next CR. (So `at` goes on by more than one.)
+#[tactic(auto, using(crate::proofs::Steps::byte))]
 fn fill(part: &[u8], from: usize, line: &mut [u8], len: usize) -> Taken
     requires { len ≤ length line.old }
     ensures { (result, line.new) ≡ cut_from (length part.now) line.old len (drop from part.now) }
@@ -150,6 +147,7 @@ fn fill(part: &[u8], from: usize, line: &mut [u8], len: usize) -> Taken
 }
 
 // Takes in bytes where a CR is held.
+#[tactic(auto, using(crate::proofs::Steps::byte))]
 fn follow(part: &[u8], from: usize, line: &mut [u8], len: usize) -> Taken
     requires { len ≤ length line.old }
     ensures { (result, line.new) ≡ cut_from (length part.now) line.old len (cr ∷ drop from part.now) }

@@ -1,8 +1,8 @@
 // Where a loop from a reader to a writer stands, in numbers alone: what each read and each call for a part make of it, and whether it goes
-// on. The rule is specs/Progresses.antt. What is read and written is the caller's.
+// on. The rule is specs/Progresses.antt. What is read and written is the caller's, and where that fails the loop is over.
 #![tactic(auto)]
 
-ghost use Rattle.std.specs.Prelude.{◌≡◌, ◌-◌};
+ghost use Rattle.std.specs.Prelude.{◌≡◌};
 ghost use Rattle.loops.specs.Progresses.{at_first, read_part, not_read, taken_in, goes_on};
 
 // How far a loop is.
@@ -11,9 +11,8 @@ pub struct Progress {
     // So many bytes of the part are not taken in yet, and they end in front of byte `to` of the input buffer.
     pub left: usize,
     pub to: usize,
-    // Whether the end of the input was met, and whether all went well.
+    // Whether the end of the input was met.
     pub end: bool,
-    pub well: bool,
     // How many bytes were put out (modulo 2^64).
     pub put: u64,
 }
@@ -27,7 +26,6 @@ impl Progress {
             left: 0,
             to: 0,
             end: false,
-            well: true,
             put,
         }
     }
@@ -40,51 +38,32 @@ impl Progress {
             left: n,
             to: n,
             end: n == 0,
-            well: true,
             put: self.put,
         }
     }
 
-    // A read failed; it is to be tried again, or all is over.
-    pub fn not_read(self, again: bool) -> Self
-        ensures { result ≡ not_read self again }
+    // A read failed, and is to be tried again.
+    pub fn not_read(self) -> Self
+        ensures { result ≡ not_read self }
+    {
+        Progress::first(self.put)
+    }
+
+    // Some of the part was taken in, and so many bytes put out.
+    pub fn taken_in(self, used: usize, written: usize) -> Self
+        ensures { result ≡ taken_in self used written }
     {
         Progress {
-            left: 0,
-            to: 0,
-            end: false,
-            well: again,
-            put: self.put,
+            left: self.left.saturating_sub(used),
+            put: self.put.wrapping_add(written as u64),
+            ..self
         }
     }
 
-    // Some of the part was taken in, and so many bytes put out, which went well or not.
-    pub fn taken_in(self, used: usize, written: usize, well: bool) -> Self
-        ensures { result ≡ taken_in self used written well }
-    {
-        Progress {
-            left: less(self.left, used),
-            to: self.to,
-            end: self.end,
-            well,
-            put: std::num::wrapping_add_u64(self.put, written as u64),
-        }
-    }
-
-    // Whether to go on: nothing failed, the input has not ended, and no refusal has ended the reading.
+    // Whether to go on: the input has not ended, and no refusal has ended the reading.
     pub fn goes_on(self, refused: bool) -> bool
         ensures { result ≡ goes_on self refused }
     {
-        self.well & (!self.end & !refused)
+        !self.end && !refused
     }
-}
-
-// The difference, or 0.
-fn less(n: usize, m: usize) -> usize
-    ensures { result ≡ n - m }
-{
-    if n < m {
-        return 0;
-    }
-    n - m
 }

@@ -2,14 +2,13 @@
 // The rule is specs/Causes.antt (document 01, "Monitors").
 #![tactic(auto)]
 
-ghost use Rattle.std.specs.Prelude.{◌≡◌, cond, take, drop};
-ghost use Rattle.common.specs.Lowest.{lowest_or};
+ghost use Rattle.std.specs.Prelude.{◌≡◌};
 ghost use Rattle.monitors.specs.Causes.{causes, cause_of};
 
 use orders::Orders;
 
 // What the three sensors of a kind say: some of them 1, all of them 1.
-#[derive(Clone, Copy)]
+#[derive(Clone, Copy, PartialEq, Eq)]
 pub struct Three {
     pub any: bool,
     pub all: bool,
@@ -17,7 +16,7 @@ pub struct Three {
 
 // What the votes of a step say: doors seen closed and open, gears seen extended and retracted, the circuit pressurized, the
 // switch closed, some sensor invalid.
-#[derive(Clone, Copy)]
+#[derive(Clone, Copy, PartialEq, Eq)]
 pub struct Sight {
     pub closed: Three,
     pub opened: Three,
@@ -28,54 +27,38 @@ pub struct Sight {
     pub invalid: bool,
 }
 
-// The lowest cause that holds, over the orders before the step with their ages grown, the handle's age and the votes.
+// The lowest cause that holds, over the orders before the step with their ages grown, the handle's age and the votes; 0 where none does.
+// (A number and no Option: the core and an image bear it so; see `Core` of `controller`.)
 pub fn cause(orders: Orders, since: u32, see: Sight) -> u8
     ensures { result ≡ cause_of orders since see }
 {
-    of_doors(
-        orders,
-        since,
-        see,
-        of_gears(orders, since, see, of_the_rest(orders, since, see)),
-    )
+    match causes(orders, since, see).iter().position(|holds| *holds) {
+        Some(place) => place as u8 + 1,
+        None => 0,
+    }
 }
 
-// The number where its test holds, else the rest.
-fn number(holds: bool, n: u8, rest: u8) -> u8
-    ensures { result ≡ cond holds n rest }
+// The thirteen causes, in their order. By `&`: with thirteen `&&`, each a branch, the proof does not close.
+#[tactic(auto, unfolding(crate::specs::Causes::causes))]
+fn causes(orders: Orders, since: u32, see: Sight) -> [bool; 13]
+    ensures { result ≡ causes orders since see }
 {
-    if holds { n } else { rest }
-}
-
-// Causes 1 to 4, of the doors.
-fn of_doors(orders: Orders, since: u32, see: Sight, rest: u8) -> u8
-    ensures { result ≡ lowest_or 1 (take 4 (causes orders since see)) rest }
-{
-    let opens = orders.opens.on_for(7000);
-    let closes = orders.closes.on_for(7000);
-    let four = number(closes & !see.closed.all, 4, rest);
-    let three = number(closes & see.opened.any, 3, four);
-    let two = number(opens & !see.opened.all, 2, three);
-    number(opens & see.closed.any, 1, two)
-}
-
-// Causes 5 to 8, of the gears.
-fn of_gears(orders: Orders, since: u32, see: Sight, rest: u8) -> u8
-    ensures { result ≡ lowest_or 5 (take 4 (drop 4 (causes orders since see))) rest }
-{
-    let eight = number(orders.extends.on_for(10000) & !see.extended.all, 8, rest);
-    let seven = number(orders.extends.on_for(7000) & see.retracted.any, 7, eight);
-    let six = number(orders.retracts.on_for(10000) & !see.retracted.all, 6, seven);
-    number(orders.retracts.on_for(7000) & see.extended.any, 5, six)
-}
-
-// Causes 9 to 13, of the circuit, the handle's switch and the sensors.
-fn of_the_rest(orders: Orders, since: u32, see: Sight) -> u8
-    ensures { result ≡ lowest_or 9 (drop 8 (causes orders since see)) 0 }
-{
-    let thirteen = number(see.invalid, 13, 0);
-    let twelve = number((21500 <= since) & see.switch, 12, thirteen);
-    let eleven = number((1000 <= since) & (since <= 19999) & !see.switch, 11, twelve);
-    let ten = number(orders.general.off_for(10000) & see.pressurized, 10, eleven);
-    number(orders.general.on_for(2000) & !see.pressurized, 9, ten)
+    [
+        // 1 to 4, of the doors
+        orders.opens.on_for(7000) & see.closed.any,
+        orders.opens.on_for(7000) & !see.opened.all,
+        orders.closes.on_for(7000) & see.opened.any,
+        orders.closes.on_for(7000) & !see.closed.all,
+        // 5 to 8, of the gears
+        orders.retracts.on_for(7000) & see.extended.any,
+        orders.retracts.on_for(10000) & !see.retracted.all,
+        orders.extends.on_for(7000) & see.retracted.any,
+        orders.extends.on_for(10000) & !see.extended.all,
+        // 9 to 13, of the circuit, the handle's switch and the sensors
+        orders.general.on_for(2000) & !see.pressurized,
+        orders.general.off_for(10000) & see.pressurized,
+        (1000 <= since) & (since <= 19999) & !see.switch,
+        (21500 <= since) & see.switch,
+        see.invalid,
+    ]
 }

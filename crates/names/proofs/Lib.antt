@@ -1,4 +1,4 @@
+mod Joined
 pub mod Lengths
 pub mod Numbered
 pub mod Once
-pub mod Starts

@@ -8,6 +8,8 @@ use Rattle.sequence.specs.declared.Doors.{Doors}
 use Rattle.sequence.specs.declared.Doors.TheVariants.{Closed, Opening, Open, Closing}
 use Rattle.sequence.specs.declared.Gears.{Gears}
 use Rattle.sequence.specs.declared.Gears.TheVariants.{Retracted, Extending, Extended, Retracting}
+use Rattle.names.specs.declared.tables.Kind.{Kind}
+use Rattle.names.specs.declared.tables.Kind.TheVariants.{Sensor, Order, Lamp, Voter, Cause}
 
 -- The entry of a list of words at a place; past the last it is empty.
 abbrev pub entry : List (List ℕ) → ℕ → List ℕ
@@ -99,3 +101,13 @@ cause_words =
     ascii "12, handle age 21,500 ms or more, switch closed" ∷
     ascii "13, some sensor invalid" ∷
     []
+
+-- ---- Lists
+
+-- The words of a list.
+abbrev pub words_of : Kind → List (List ℕ)
+words_of Sensor = sensor_names
+words_of Order = order_names
+words_of Lamp = lamp_names
+words_of Voter = voter_words
+words_of Cause = cause_words

@@ -1,25 +1,14 @@
-// The words and names by which the programs write what the documents name (specs/Words.antt): each stands here once, in src/tables.rt.
-// A name or word that has no room in the line is not put, and the place stays; so it is where there is none at the place asked for.
+// The words and names by which the programs write what the documents name (specs/Words.antt): each stands here once, those of lists in
+// src/tables.rt. `texts` puts them.
 #![tactic(auto)]
 
 ghost use Rattle.std.specs.Prelude.{◌≡◌};
-ghost use Rattle.common.specs.Ascii.{joined_by_commas};
-ghost use Rattle.texts.specs.Puts.{put_of};
-ghost use Rattle.names.specs.Words.{
-  entry,
-  sensor_names,
-  order_names,
-  lamp_names,
-  voter_words,
-  cause_words,
-  doors_word,
-  gears_word,
-  handle_word,
-};
+ghost use Rattle.names.specs.Words.{doors_word, gears_word, handle_word};
 
 mod tables;
 
 use sequence::{Aim, Doors, Gears};
+pub use tables::Kind;
 
 // There are so many of each.
 pub const SENSORS: usize = 18;
@@ -30,7 +19,7 @@ pub const LAMPS: usize = 3;
 
 pub const CAUSES: usize = 14;
 
-// The places of the orders among their names.
+// The places of the orders among their names. (They are places in a list, as `Kind::word` takes them: an enum would be cast at each call.)
 pub const GENERAL: usize = 0;
 
 pub const CLOSES: usize = 1;
@@ -41,95 +30,36 @@ pub const RETRACTS: usize = 3;
 
 pub const EXTENDS: usize = 4;
 
-// Puts the name of sensor k, from 0 on.
-pub fn put_sensor(line: &mut [u8], at: usize, k: usize) -> usize
-    ensures { (result, line.new) ≡ put_of line.old at (entry sensor_names k) }
-{
-    tables::put_word(line, at, &tables::SENSORS, &tables::SENSOR_STARTS, k)
-}
-
-// Puts all of these names, with a comma between each two.
-pub fn put_sensor_names(line: &mut [u8], at: usize) -> usize
-    ensures { (result, line.new) ≡ put_of line.old at (joined_by_commas sensor_names) }
-{
-    texts::put(line, at, &tables::SENSORS)
-}
-
-// Puts the name of order k, from 0 on.
-pub fn put_order(line: &mut [u8], at: usize, k: usize) -> usize
-    ensures { (result, line.new) ≡ put_of line.old at (entry order_names k) }
-{
-    tables::put_word(line, at, &tables::ORDERS, &tables::ORDER_STARTS, k)
-}
-
-// Puts all of these names, with a comma between each two.
-pub fn put_order_names(line: &mut [u8], at: usize) -> usize
-    ensures { (result, line.new) ≡ put_of line.old at (joined_by_commas order_names) }
-{
-    texts::put(line, at, &tables::ORDERS)
-}
-
-// Puts the name of lamp k, from 0 on.
-pub fn put_lamp(line: &mut [u8], at: usize, k: usize) -> usize
-    ensures { (result, line.new) ≡ put_of line.old at (entry lamp_names k) }
-{
-    tables::put_word(line, at, &tables::LAMPS, &tables::LAMP_STARTS, k)
-}
-
-// Puts all of these names, with a comma between each two.
-pub fn put_lamp_names(line: &mut [u8], at: usize) -> usize
-    ensures { (result, line.new) ≡ put_of line.old at (joined_by_commas lamp_names) }
-{
-    texts::put(line, at, &tables::LAMPS)
-}
-
-// Puts the word of the voter with number k.
-pub fn put_voter(line: &mut [u8], at: usize, k: usize) -> usize
-    ensures { (result, line.new) ≡ put_of line.old at (entry voter_words k) }
-{
-    tables::put_word(line, at, &tables::VOTERS, &tables::VOTER_STARTS, k)
-}
-
-// Puts the word of cause k; 0 is none.
-pub fn put_cause(line: &mut [u8], at: usize, k: usize) -> usize
-    ensures { (result, line.new) ≡ put_of line.old at (entry cause_words k) }
-{
-    tables::put_word(line, at, &tables::CAUSES, &tables::CAUSE_STARTS, k)
-}
-
-// Puts the word of the doors. (On the path of every output row a word's own bytes cost less than a part of a table.)
-pub fn put_doors(line: &mut [u8], at: usize, doors: Doors) -> usize
-    ensures { (result, line.new) ≡ put_of line.old at (doors_word doors) }
+// The word of the doors.
+pub fn doors_word(doors: Doors) -> &'static [u8]
+    ensures { result.now ≡ doors_word doors }
 {
     match doors {
-        Doors::Closed => texts::put(line, at, b"CLOSED"),
-        Doors::Opening => texts::put(line, at, b"OPENING"),
-        Doors::Open => texts::put(line, at, b"OPEN"),
-        Doors::Closing => texts::put(line, at, b"CLOSING"),
+        Doors::Closed => b"CLOSED",
+        Doors::Opening => b"OPENING",
+        Doors::Open => b"OPEN",
+        Doors::Closing => b"CLOSING",
     }
 }
 
-// Puts the word of the gears.
-pub fn put_gears(line: &mut [u8], at: usize, gears: Gears) -> usize
-    ensures { (result, line.new) ≡ put_of line.old at (gears_word gears) }
+// The word of the gears. (By a match, as for the doors: the words are the table.)
+pub fn gears_word(gears: Gears) -> &'static [u8]
+    ensures { result.now ≡ gears_word gears }
 {
     match gears {
-        Gears::Retracted => texts::put(line, at, b"RETRACTED"),
-        Gears::Extending => texts::put(line, at, b"EXTENDING"),
-        Gears::Extended => texts::put(line, at, b"EXTENDED"),
-        Gears::Retracting => texts::put(line, at, b"RETRACTING"),
+        Gears::Retracted => b"RETRACTED",
+        Gears::Extending => b"EXTENDING",
+        Gears::Extended => b"EXTENDED",
+        Gears::Retracting => b"RETRACTING",
     }
 }
 
-// Puts the word of the handle that has this aim.
-pub fn put_handle(line: &mut [u8], at: usize, aim: Aim) -> usize
-    ensures { (result, line.new) ≡ put_of line.old at (handle_word aim) }
+// The word of the handle that has this aim.
+pub fn handle_word(aim: Aim) -> &'static [u8]
+    ensures { result.now ≡ handle_word aim }
 {
-    tables::put_word(
-        line,
-        at,
-        &tables::HANDLES,
-        &tables::HANDLE_STARTS,
-        aim.number() as usize,
-    )
+    match aim {
+        Aim::ToRetracted => b"up",
+        Aim::ToExtended => b"down",
+    }
 }

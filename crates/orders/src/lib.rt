@@ -3,19 +3,19 @@
 #![tactic(auto)]
 
 ghost use Rattle.std.specs.Prelude.{◌≡◌};
-ghost use Rattle.orders.specs.Timing.{grown_age, grown, all_grown, on_for, off_for, switched, is_opening, is_closing, is_retracting, is_extending, wanted_of, directed, off_together, general_of, orders_of};
+ghost use Rattle.orders.specs.Timing.{grown_age, grown, all_grown, on_for, off_for, switched, wanted_of, directed, off_together, general_of, orders_of};
 
 use sequence::{Doors, Gears, Place};
 
 // One order: whether it is on, and for how many ms it has been so.
-#[derive(Clone, Copy)]
+#[derive(Clone, Copy, PartialEq, Eq)]
 pub struct Order {
     pub on: bool,
     pub age: u32,
 }
 
 // The five orders, in the order of the output row: general_EV, close_EV, open_EV, retract_EV, extend_EV.
-#[derive(Clone, Copy)]
+#[derive(Clone, Copy, PartialEq, Eq)]
 pub struct Orders {
     pub general: Order,
     pub closes: Order,
@@ -25,7 +25,7 @@ pub struct Orders {
 }
 
 // Which of the four are wanted.
-#[derive(Clone, Copy)]
+#[derive(Clone, Copy, PartialEq, Eq)]
 pub struct Wanted {
     pub closes: bool,
     pub opens: bool,
@@ -37,18 +37,16 @@ pub struct Wanted {
 pub const OLDEST: u32 = 60000;
 
 // An age some ms later.
+#[tactic(auto, unfolding(crate::specs::Timing::grown_age))]
 pub fn grown_age(age: u32, elapsed: u32) -> u32
     ensures { result ≡ grown_age elapsed age }
 {
-    let sum = (age as u64) + (elapsed as u64);
-    if sum < (OLDEST as u64) {
-        return sum as u32;
-    }
-    OLDEST
+    age.saturating_add(elapsed).min(OLDEST)
 }
 
 impl Order {
     // The order some ms later.
+    #[tactic(auto, unfolding(crate::specs::Timing::grown))]
     pub fn grown(self, elapsed: u32) -> Self
         ensures { result ≡ grown elapsed self }
     {
@@ -59,38 +57,40 @@ impl Order {
     }
 
     // Whether it has been on for so many ms.
+    #[tactic(auto, unfolding(crate::specs::Timing::on_for))]
     pub fn on_for(self, ms: u32) -> bool
         ensures { result ≡ on_for ms self }
     {
-        self.on & (ms <= self.age)
+        self.on && ms <= self.age
     }
 
     // Whether it has been off for so many ms.
+    #[tactic(auto, unfolding(crate::specs::Timing::off_for))]
     pub fn off_for(self, ms: u32) -> bool
         ensures { result ≡ off_for ms self }
     {
-        !self.on & (ms <= self.age)
+        !self.on && ms <= self.age
     }
 }
 
 impl Wanted {
     // Which of the four are wanted at a place; none with an anomaly.
+    #[tactic(auto, unfolding(crate::specs::Timing::wanted_of))]
     pub fn at(place: Place, anomaly: bool) -> Self
         ensures { result ≡ wanted_of place anomaly }
     {
-        let doors = place.doors;
-        let gears = place.gears;
         Wanted {
-            closes: closing(doors) & !anomaly,
-            opens: opening(doors) & !anomaly,
-            retracts: retracting(gears) & !anomaly,
-            extends: extending(gears) & !anomaly,
+            closes: place.doors == Doors::Closing && !anomaly,
+            opens: place.doors == Doors::Opening && !anomaly,
+            retracts: place.gears == Gears::Retracting && !anomaly,
+            extends: place.gears == Gears::Extending && !anomaly,
         }
     }
 }
 
 impl Orders {
     // The orders some ms later.
+    #[tactic(auto, unfolding(crate::specs::Timing::all_grown))]
     pub fn grown(self, elapsed: u32) -> Self
         ensures { result ≡ all_grown elapsed self }
     {
@@ -104,12 +104,12 @@ impl Orders {
     }
 
     // The orders of a step, from those before it with their ages grown, by the new doors, gears and anomaly.
+    #[tactic(auto, unfolding(crate::specs::Timing::orders_of))]
     pub fn after(self, place: Place, anomaly: bool) -> Self
         ensures { result ≡ orders_of place anomaly self }
     {
         let wanted = Wanted::at(place, anomaly);
-        let doors = place.doors;
-        let needed = !doors.are_closed() & !anomaly;
+        let needed = !place.doors.are_closed() && !anomaly;
         Orders {
             general: self.general.general(needed, self.off_together()),
             closes: self
@@ -126,66 +126,22 @@ impl Orders {
     }
 }
 
-// Doors OPENING.
-fn opening(doors: Doors) -> bool
-    ensures { result ≡ is_opening doors }
-{
-    match doors {
-        Doors::Closed => false,
-        Doors::Opening => true,
-        Doors::Open => false,
-        Doors::Closing => false,
-    }
-}
-
-// Doors CLOSING.
-fn closing(doors: Doors) -> bool
-    ensures { result ≡ is_closing doors }
-{
-    match doors {
-        Doors::Closed => false,
-        Doors::Opening => false,
-        Doors::Open => false,
-        Doors::Closing => true,
-    }
-}
-
-// Gears RETRACTING.
-fn retracting(gears: Gears) -> bool
-    ensures { result ≡ is_retracting gears }
-{
-    match gears {
-        Gears::Retracted => false,
-        Gears::Extending => false,
-        Gears::Extended => false,
-        Gears::Retracting => true,
-    }
-}
-
-// Gears EXTENDING.
-fn extending(gears: Gears) -> bool
-    ensures { result ≡ is_extending gears }
-{
-    match gears {
-        Gears::Retracted => false,
-        Gears::Extending => true,
-        Gears::Extended => false,
-        Gears::Retracting => false,
-    }
-}
-
 impl Order {
     // The order switched on or off: with age 0 where that changes it.
+    #[tactic(auto, unfolding(crate::specs::Timing::switched))]
     fn switched(self, on: bool) -> Self
         ensures { result ≡ switched on self }
     {
         if on == self.on {
-            return self;
+            self
+        } else {
+            Order { on, age: 0 }
         }
-        Order { on, age: 0 }
     }
 
-    // One of the four after a step, by whether it is wanted, and by general_EV and its opposite as they stood before.
+    // One of the four after a step, by whether it is wanted, and by general_EV and its opposite as they stood before. By `&` and `|`: with `&&`
+    // and `||` a step of the controller takes a tenth more instructions.
+    #[tactic(auto, unfolding(crate::specs::Timing::directed))]
     fn directed(self, wanted: bool, general: Order, opposite: Order) -> Self
         ensures { result ≡ directed wanted general opposite self }
     {
@@ -194,24 +150,24 @@ impl Order {
     }
 
     // General_EV after a step, by whether it is needed, and whether the four have been off for long enough.
+    #[tactic(auto, unfolding(crate::specs::Timing::general_of))]
     fn general(self, needed: bool, stops: bool) -> Self
         ensures { result ≡ general_of needed stops self }
     {
-        if self.on {
-            return self.switched(needed | !stops);
-        }
-        self.switched(needed)
+        let on = if self.on { needed || !stops } else { needed };
+        self.switched(on)
     }
 }
 
 impl Orders {
     // Whether all four others have been off for so long that general_EV may stop.
+    #[tactic(auto, unfolding(crate::specs::Timing::off_together))]
     fn off_together(self) -> bool
         ensures { result ≡ off_together self }
     {
         self.closes.off_for(1000)
-            & self.opens.off_for(1000)
-            & self.retracts.off_for(1000)
-            & self.extends.off_for(1000)
+            && self.opens.off_for(1000)
+            && self.retracts.off_for(1000)
+            && self.extends.off_for(1000)
     }
 }

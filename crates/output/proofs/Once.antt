@@ -6,9 +6,10 @@ use mathlib.Core.Path.{◌≡◌, sym, ◌∙◌}
 use Rattle.common.specs.Answers.{Answer}
 use Rattle.common.specs.OneAnswer.{OneAnswerAnd}
 use Rattle.common.proofs.Pairs.{both}
-use Rattle.output.specs.Answers.{written_says}
-use Rattle.output.specs.declared.Written.{Written}
-use Rattle.output.specs.declared.Written.TheVariants.{Bytes, NoRoom}
+use Rattle.std.specs.Prelude.{Result}
+use Rattle.refusals.specs.declared.Refusal.{Refusal}
+use Rattle.refusals.specs.Answers.{says}
+use Rattle.refusals.proofs.Laws.{said_once}
 use Rattle.output.proofs.write_header.Kinds as header_kinds
 use Rattle.output.proofs.write_header.Reads as header_reads
 use Rattle.output.proofs.write_refusal.Kinds as refusal_kinds
@@ -16,17 +17,10 @@ use Rattle.output.proofs.write_refusal.Reads as refusal_reads
 use Rattle.output.proofs.write_row.Kinds as row_kinds
 use Rattle.output.proofs.write_row.Reads as row_reads
 
--- Two answers that say the same are the same.
-says_once : (x y : Written) → written_says x ≡ written_says y → x ≡ y
-says_once (Bytes m) (Bytes n) e = cc
-says_once (Bytes m) NoRoom e = cc
-says_once NoRoom (Bytes n) e = cc
-says_once NoRoom NoRoom e = cc
-
-once : (x y : Written) (s t : List ℕ) (rule : Answer ℕ × List ℕ) → (written_says x, s) ≡ rule → (written_says y, t) ≡ rule → (x ≡ y) × (s ≡ t)
+once : (x y : Result ℕ Refusal) (s t : List ℕ) (rule : Answer ℕ × List ℕ) → (says x, s) ≡ rule → (says y, t) ≡ rule → (x ≡ y) × (s ≡ t)
 once x y s t rule p q =
     let e = both (p ∙ sym q) in
-    (says_once x y e.0, e.1)
+    (said_once x y e.0, e.1)
 
 pub write_header_once : OneAnswerAnd 1 header_kinds.ps header_kinds.r header_reads.Post (List ℕ) (λ κs s. s.0.now)
 write_header_once κs a x y s t p q = once x y s.0.now t.0.now _ p q

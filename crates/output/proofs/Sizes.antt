@@ -3,7 +3,7 @@
 use Prim.Native.Nat.{ℕ, ◌+◌, ◌^◌, ◌<◌, ◌≤◌}
 use native.Mathlib.Omega.{arith}
 use mathlib.Core.Bool.{Bool, true, false, not, ◌||◌}
-use mathlib.Core.Path.{◌≡◌, ap, ◌∙◌}
+use mathlib.Core.Path.{◌≡◌, refl, ap, ◌∙◌}
 use lib.Dec.{T, lit≤}
 use lib.ListN.{length, length-append}
 use Rattle.common.specs.Ascii.{joined_by_commas}
@@ -14,11 +14,11 @@ use Rattle.sequence.specs.declared.Doors.TheVariants.{Closed, Opening, Open, Clo
 use Rattle.sequence.specs.declared.Gears.{Gears}
 use Rattle.sequence.specs.declared.Gears.TheVariants.{Retracted, Extending, Extended, Retracting}
 use Rattle.sequence.specs.Places.{are_open, are_moving, moving_have_open}
-use Rattle.names.specs.Words.{doors_word, gears_word}
+use Rattle.names.specs.Words.{doors_word, gears_word, order_names, lamp_names}
 use Rattle.names.proofs.Lengths.{doors_length, gears_length}
 use Rattle.controller.specs.declared.Shown.{Shown}
 use Rattle.output.specs.Pieces.{head_piece, tail_piece}
-use Rattle.output.specs.Rows.{shown_fields, row_text, refusal_text}
+use Rattle.output.specs.Rows.{shown_fields, header_text, row_text, refusal_text}
 use Rattle.output.proofs.Texts.{row_text_lem, refusal_text_lem}
 
 -- ---- The length of a row, whatever it shows.
@@ -40,16 +40,26 @@ pub refusal_length : (line refusal : ℕ) → length (refusal_text line refusal)
 unfolding joined_by_commas
 refusal_length line refusal = ap length (refusal_text_lem line refusal) ∙ simp length-append (omega arith)
 
--- ---- What fits a line of 64 bytes.
+-- ---- What is put together in a line fits it: a header of 128 bytes, a row of 64.
 
--- A number of 64 bits and one of 8 bits.
-pub head_at_most_24 : (number code : ℕ) → number < 2 ^ 64 → code < 2 ^ 8 → length (head_piece number code) ≤ 24
-head_at_most_24 number code n c =
-    omega (arith, head_length number code, decimal_length 19 number (omega arith), decimal_length 2 code (omega arith))
+pub header_89 : length header_text ≡ 89
+unfolding header_text joined_by_commas order_names lamp_names
+header_89 = refl
 
--- What is shown.
-pub shown_at_most_37 : (s : Shown) → length (tail_piece (shown_fields s)) ≤ 37
-shown_at_most_37 s = omega (arith, shown_length s, doors_length s.doors, gears_length s.gears)
+pub row_at_most_61 : (label code : ℕ) (s : Shown) → label < 2 ^ 64 → code < 2 ^ 8 → length (row_text label code s) ≤ 61
+row_at_most_61 label code s n c =
+    omega (
+      arith,
+      row_length label code s,
+      decimal_length 19 label (omega arith),
+      decimal_length 2 code (omega arith),
+      doors_length s.doors,
+      gears_length s.gears,
+    )
+
+pub refusal_at_most_37 : (line refusal : ℕ) → line < 2 ^ 64 → refusal < 2 ^ 8 → length (refusal_text line refusal) ≤ 37
+refusal_at_most_37 line refusal n c =
+    omega (arith, refusal_length line refusal, decimal_length 19 line (omega arith), decimal_length 2 refusal (omega arith))
 
 -- ---- A row of any label and any code of one digit is at most 49 bytes long, whatever it shows.
 

@@ -1,4 +1,3 @@
-pub mod Answers
 pub mod Cases
 pub mod Pieces
 pub mod Rows

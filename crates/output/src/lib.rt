@@ -3,9 +3,9 @@
 // A text is put together in an array of its own, piece by piece, and then handed to the lent buffer if there is room for it.
 #![tactic(auto)]
 
-ghost use Rattle.std.specs.Prelude.{◌≡◌, ◌+◌, ◌≤◌, length};
-ghost use Rattle.texts.specs.Puts.{Put};
-ghost use Rattle.output.specs.Answers.{written_says};
+ghost use Rattle.std.specs.Prelude.{◌≡◌};
+ghost use Rattle.refusals.specs.Answers.{says};
+ghost use Rattle.texts.specs.Lines.{PutsIfRoom};
 ghost use Rattle.output.specs.Pieces.{head_piece, tail_piece, orders_piece, lights_piece};
 ghost use Rattle.output.specs.Rows.{
   shown_fields,
@@ -16,90 +16,82 @@ ghost use Rattle.output.specs.Rows.{
 };
 
 use controller::{Lights, Shown};
+use names::Kind;
+use refusals::Refusal;
+use texts::Line;
 
-// What a writer answers: the number of bytes that it wrote, or that the buffer is too short for them.
-#[derive(Clone, Copy)]
-pub enum Written {
-    Bytes(usize),
-    NoRoom,
+// The output header. Each writer gives the number of bytes that it wrote, or 8: the buffer is too short for them.
+pub fn write_header(out: &mut [u8]) -> Result<usize, Refusal>
+    ensures { (says result, out.new) ≡ written header_text out.old }
+{
+    let mut room = [0u8; 128];
+    let mut line = Line::new(&mut room);
+    put_header(&mut line);
+    hand_over(line.text(), out)
 }
 
-// The output header.
-pub fn write_header(out: &mut [u8]) -> Written
-    ensures { (written_says result, out.new) ≡ written header_text out.old }
+// The row of a row read: its label, 0 or its refusal's number, as the row bears it, and what is shown of the state.
+pub fn write_row(label: u32, code: u8, shown: Shown, out: &mut [u8]) -> Result<usize, Refusal>
+    ensures { (says result, out.new) ≡ written (row_text label code shown) out.old }
 {
-    let mut text = [0u8; 128];
-    let end = put_header(&mut text);
-    hand_over(&text[..end], out)
+    let mut room = [0u8; 64];
+    let mut line = Line::new(&mut room);
+    put_head(&mut line, label as u64, code);
+    put_shown(&mut line, shown);
+    hand_over(line.text(), out)
 }
 
-// The row of a row read: its label, 0 or its refusal, and what is shown of the state.
-pub fn write_row(label: u32, code: u8, shown: Shown, out: &mut [u8]) -> Written
-    ensures { (written_says result, out.new) ≡ written (row_text label code shown) out.old }
+// The row of a refusal that ends the run: the line number, the refusal's and ten empty fields.
+pub fn write_refusal(line: u64, refusal: u8, out: &mut [u8]) -> Result<usize, Refusal>
+    ensures { (says result, out.new) ≡ written (refusal_text line refusal) out.old }
 {
-    let mut text = [0u8; 64];
-    let at = put_head(&mut text, label as u64, code);
-    let end = put_shown(&mut text, at, shown);
-    hand_over(&text[..end], out)
-}
-
-// The row of a refusal that ends the run: the line number, the refusal and ten empty fields.
-pub fn write_refusal(line: u64, refusal: u8, out: &mut [u8]) -> Written
-    ensures { (written_says result, out.new) ≡ written (refusal_text line refusal) out.old }
-{
-    let mut text = [0u8; 64];
-    let at = put_head(&mut text, line, refusal);
-    let end = texts::put(&mut text, at, b",,,,,,,,,,\r\n");
-    hand_over(&text[..end], out)
+    let mut room = [0u8; 64];
+    let mut row = Line::new(&mut room);
+    put_head(&mut row, line, refusal);
+    row.put(b",,,,,,,,,,\r\n");
+    hand_over(row.text(), out)
 }
 
 // Hands a text to the lent buffer where there is room for it.
-fn hand_over(text: &[u8], out: &mut [u8]) -> Written
-    ensures { (written_says result, out.new) ≡ written text.now out.old }
+#[tactic(auto, unfolding(crate::specs::Rows::written))]
+fn hand_over(text: &[u8], out: &mut [u8]) -> Result<usize, Refusal>
+    ensures { (says result, out.new) ≡ written text.now out.old }
 {
     if out.len() < text.len() {
-        return Written::NoRoom;
+        return Err(Refusal::Room);
     }
-    Written::Bytes(texts::put(out, 0, text))
+    Ok(spans::copy(text, out))
 }
 
-// Puts the header into the line, which has room for it.
-fn put_header(line: &mut [u8]) -> usize
-    requires { 89 ≤ length line.old }
-    ensures { (result ≤ 89) × Put line.old 0 header_text line.new result }
+// Puts the header.
+fn put_header(line: &mut Line)
+    ensures { PutsIfRoom header_text line.old line.new }
 {
-    let first = texts::put(line, 0, b"step,code,");
-    let orders = names::put_order_names(line, first);
-    let places = texts::put(line, orders, b",doors,gears,");
-    let lamps = names::put_lamp_names(line, places);
-    texts::put(line, lamps, b"\r\n")
+    line.put(b"step,code,");
+    Kind::Order.put_all(line);
+    line.put(b",doors,gears,");
+    Kind::Lamp.put_all(line);
+    line.put(b"\r\n");
 }
 
-// Puts the first two fields of a row into the line, which has room for the longest.
-fn put_head(line: &mut [u8], number: u64, code: u8) -> usize
-    requires { 24 ≤ length line.old }
-    ensures { (result ≤ 24) × Put line.old 0 (head_piece number code) line.new result }
+// Puts the first two fields of a row.
+fn put_head(line: &mut Line, number: u64, code: u8)
+    ensures { PutsIfRoom (head_piece number code) line.old line.new }
 {
-    let at = texts::put_number(line, 0, number);
-    let next = texts::put(line, at, b",");
-    texts::put_number(line, next, code as u64)
+    line.put_number(number);
+    line.put(b",");
+    line.put_number(code as u64);
 }
 
-// Puts what is shown of a state into the line, which has room for the longest: the last ten fields of a row and its end.
-fn put_shown(line: &mut [u8], at: usize, shown: Shown) -> usize
-    requires { at + 37 ≤ length line.old }
-    ensures { (result ≤ at + 37) × Put line.old at (tail_piece (shown_fields shown)) line.new result }
+// Puts what is shown of a state: the last ten fields of a row and its end.
+fn put_shown(line: &mut Line, shown: Shown)
+    ensures { PutsIfRoom (tail_piece (shown_fields shown)) line.old line.new }
 {
-    let doors = shown.doors;
-    let gears = shown.gears;
-    let lamps = shown.lights;
-    let orders = orders_piece(shown);
-    let lights = lights_piece(lamps);
-    let ordered = texts::put(line, at, &orders);
-    let doored = names::put_doors(line, ordered, doors);
-    let between = texts::put(line, doored, b",");
-    let geared = names::put_gears(line, between, gears);
-    texts::put(line, geared, &lights)
+    line.put(&orders_piece(shown));
+    line.put(names::doors_word(shown.doors));
+    line.put(b",");
+    line.put(names::gears_word(shown.gears));
+    line.put(&lights_piece(shown.lights));
 }
 
 // The five orders, a comma before each and after the last.

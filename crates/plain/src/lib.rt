@@ -3,9 +3,8 @@
 // by piece, and then handed to the lent line if there is room for it.
 #![tactic(auto)]
 
-ghost use Rattle.std.specs.Prelude.{◌≡◌};
 ghost use Rattle.names.specs.Words.{entry};
-ghost use Rattle.texts.specs.Puts.{put_of};
+ghost use Rattle.texts.specs.Lines.{Puts};
 ghost use Rattle.plain.specs.Plain.{plain_of};
 ghost use Rattle.plain.specs.Parts.{item_names, rule_words};
 
@@ -13,30 +12,34 @@ mod lines;
 mod parts;
 
 use controller::State;
+use texts::Line;
 
-// Puts the controller in plain words into the line: the place after them, or the same place where there is no room for all of it.
-pub fn put(line: &mut [u8], at: usize, state: State) -> usize
-    ensures { (result, line.new) ≡ put_of line.old at (plain_of state) }
+// Puts the controller in plain words into the line, if there is room for all of them.
+pub fn put(line: &mut Line, state: State)
+    ensures { Puts (plain_of state) line.old line.new }
 {
-    let mut text = [0u8; 2563];
-    let end = lines::put_all(&mut text, state);
-    texts::put(line, at, &text[..end])
+    let mut room = [0u8; 2563];
+    let mut text = Line::new(&mut room);
+    lines::put_all(&mut text, state);
+    line.put(text.text());
 }
 
 // Puts the name of item k of an image of the new form, counted from 0; past the last there is none.
-pub fn put_item(line: &mut [u8], at: usize, k: usize) -> usize
-    ensures { (result, line.new) ≡ put_of line.old at (entry item_names k) }
+pub fn put_item(line: &mut Line, k: usize)
+    ensures { Puts (entry item_names k) line.old line.new }
 {
-    let mut text = [0u8; 38];
-    let end = parts::put_name(&mut text, k);
-    texts::put(line, at, &text[..end])
+    let mut room = [0u8; 38];
+    let mut text = Line::new(&mut room);
+    parts::put_name(&mut text, k);
+    line.put(text.text());
 }
 
-// Puts rule k of an image in words, counted from 0; past the last there is none.
-pub fn put_rule(line: &mut [u8], at: usize, k: usize) -> usize
-    ensures { (result, line.new) ≡ put_of line.old at (entry rule_words k) }
+// Puts rule k of an image in words, counted from 0; past the last there is none. (`put_item` with another room and another text.)
+pub fn put_rule(line: &mut Line, k: usize)
+    ensures { Puts (entry rule_words k) line.old line.new }
 {
-    let mut text = [0u8; 70];
-    let end = parts::put_words(&mut text, k);
-    texts::put(line, at, &text[..end])
+    let mut room = [0u8; 70];
+    let mut text = Line::new(&mut room);
+    parts::put_words(&mut text, k);
+    line.put(text.text());
 }

@@ -15,7 +15,7 @@ use Rattle.common.specs.Answers.{gives, refuses}
 use Rattle.dump.specs.Wires.{wires}
 use Rattle.dump.specs.Dumps.{Moment, Rising, dump_of}
 use Rattle.readback.specs.declared.Reader.{Reader}
-use Rattle.readback.specs.declared.Took.{Took}
+use Rattle.readback.specs.Answers.{Took}
 use Rattle.readback.specs.Bytes.{new_reader, byte_of}
 use Rattle.readback.specs.Reads.{is_bad, complete, begins, moment_of, before, read_from, read_of, bits, take_of, finish_of}
 use Rattle.readback.specs.Calls.{

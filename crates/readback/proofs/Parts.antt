@@ -13,7 +13,7 @@ use Rattle.common.specs.Answers.{refuses}
 use Rattle.common.proofs.Pairs.{both}
 use Rattle.dump.specs.Wires.{wires}
 use Rattle.readback.specs.declared.Reader.{Reader}
-use Rattle.readback.specs.declared.Took.{Took}
+use Rattle.readback.specs.Answers.{Took}
 use Rattle.readback.specs.Bytes.{byte_of}
 use Rattle.readback.specs.Reads.{
   is_bad,

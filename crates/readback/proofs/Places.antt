@@ -5,7 +5,7 @@ use Prim.Native.Nat.{ℕ, suc, ◌^◌}
 use native.Mathlib.Omega.{arith}
 use mathlib.Core.Bool.{Bool, true, false, cond, ◌&&◌, false≢true}
 use mathlib.Core.List.{List, [], ◌∷◌}
-use mathlib.Core.Path.{◌≡◌, refl, sym, ap, ◌∙◌}
+use mathlib.Core.Path.{◌≡◌, refl, sym, ◌∙◌}
 use Rattle.common.specs.Answers.{gives, refuses}
 use lib.Dec.{eqb, leb, ltb}
 use lib.ListN.{length, get_or}
@@ -15,24 +15,7 @@ use Rattle.dump.specs.Dumps.{Moment, closing_text, hash, differ}
 use Rattle.readback.specs.declared.Place.{Place}
 use Rattle.readback.specs.declared.Place.TheVariants.{Opening, FirstValue, FirstCode, FirstEnd, Closing, Line, Time, Code, End, Bad}
 use Rattle.readback.specs.declared.Reader.{Reader}
-use Rattle.readback.specs.Bytes.{
-  bad,
-  is_value,
-  value_of,
-  wire_of,
-  is_digit,
-  with_digit,
-  at_first_value,
-  at_first_code,
-  at_first_end,
-  at_closing,
-  at_line,
-  at_time,
-  at_code,
-  at_end,
-  byte_by,
-  byte_of,
-}
+use Rattle.readback.specs.Bytes.{bad, is_value, value_of, wire_of, is_digit, with_digit, at_first_value, at_first_code, at_first_end, at_closing, at_line, at_time, at_code, at_end, byte_of}
 use Rattle.readback.specs.Reads.{is_opening, is_bad, complete, begins, read_from}
 
 -- A refusal gives nothing.
@@ -47,11 +30,6 @@ both_hold false b e = (cc, cc)
 -- A reader by its parts.
 abbrev pub reader_at : Place → ℕ → ℕ → List Bool → Reader
 reader_at place time next values = record { place = place; time = time; next = next; values = values }
-
--- A byte at a place that is known.
-pub byte_at : (r : Reader) (b : ℕ) (place : Place) → r.place ≡ place → byte_of r b ≡ byte_by place r b
-unfolding byte_of
-byte_at r b place e = ap (λ (p : Place). byte_by p r b) e
 
 -- The place where nothing more is read.
 pub bad_place : (place : Place) → is_bad place ≡ true → place ≡ Bad

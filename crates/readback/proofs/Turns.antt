@@ -3,15 +3,18 @@
 use Prim.Native.Nat.{ℕ, ◌+◌, ◌<◌, ◌≤◌}
 use native.Mathlib.Numerals.{add-one}
 use mathlib.Core.Bool.{Bool, true, false}
-use mathlib.Core.List.{List, [], ◌∷◌, ◌++◌}
-use mathlib.Core.Path.{◌≡◌, refl, sym, ap}
+use mathlib.Core.List.{List, [], ◌∷◌}
+use mathlib.Core.Path.{◌≡◌, sym}
 use lib.ListN.{length, get_or, set, take, drop, drop_of_length-le}
 use mir.Val.{bool_byte}
 use lib.Seq.{drop-cons, take-suc, take-suc-set}
+use Rattle.std.proofs.lemmas.List.{map-append}
 use Rattle.common.specs.Bits.{bit}
+use Rattle.common.proofs.Bits.{byte_is_bit}
 use Rattle.readback.specs.declared.Reader.{Reader}
 use Rattle.readback.specs.Bytes.{byte_of}
 use Rattle.readback.specs.Reads.{is_bad, begins, refused, bits, goes_on, gives_moment, taken_from}
+use Rattle.readback.proofs.Places.{was_opening}
 
 -- ---- A byte of a part
 
@@ -42,20 +45,13 @@ module _ (start r : Reader) (i : ℕ) (part values : List ℕ) where
       unfolding taken_from
       turned e = rw (drop-cons part i 0 within, fine, e, add-one i)
 
+pub ruleset turns = (used_up, turned_bad, turned_moment, turned, was_opening)
+
 -- ---- A value that is shown
-
-bits_append : (us vs : List Bool) → bits (us ++ vs) ≡ bits us ++ bits vs
-bits_append [] vs = refl
-bits_append (u ∷ us) vs = ap (λ (l : List ℕ). bit u ∷ l) (bits_append us vs)
-
--- A value as a byte.
-byte_bit : (value : Bool) → bool_byte value ≡ bit value
-byte_bit true = refl
-byte_bit false = refl
 
 pub shown_turn : (values : List Bool) (out : List ℕ) (i : ℕ) → i < length values → i < length out
     → take i out ≡ bits (take i values)
     → take (i + 1) (set out i (bool_byte (get_or values i false))) ≡ bits (take (i + 1) values)
 shown_turn values out i h k e =
-    rw (add-one i, byte_bit (get_or values i false), take-suc-set out i (bit (get_or values i false)) k, take-suc values i false h, e)
-    (sym (bits_append (take i values) (get_or values i false ∷ [])))
+    rw (add-one i, byte_is_bit (get_or values i false), take-suc-set out i (bit (get_or values i false)) k, take-suc values i false h, e)
+    (sym (map-append bit (take i values) (get_or values i false ∷ [])))

@@ -39,14 +39,13 @@ told r place wire value = record { place = place; time = r.time; next = suc wire
 
 -- ---- Of the head
 
--- A byte of a text that every dump has, by whether it is that byte and the last one: behind the last the reader is at another place.
-abbrev pub byte_of_text : Reader → Bool → Bool → Place → Place → Reader
-byte_of_text r same last on behind = cond same (moved r (cond last behind on)) (bad r)
+-- A text that every dump has, byte for byte: the byte at a place of it, and behind the last one the reader is at another place.
+abbrev pub has_byte : List ℕ → ℕ → ℕ → Bool
+has_byte text at b = ltb at (length text) && eqb b (get_or text at 0)
 
--- Such a text, byte for byte: the byte at a place of it.
 abbrev pub at_text : List ℕ → (ℕ → Place) → Place → Reader → ℕ → ℕ → Reader
 at_text text on behind r at b =
-    byte_of_text r (ltb at (length text) && eqb b (get_or text at 0)) (eqb (suc at) (length text)) (on (suc at)) behind
+    cond (has_byte text at b) (moved r (cond (eqb (suc at) (length text)) behind (on (suc at)))) (bad r)
 
 -- What every dump begins with; behind it comes the first wire's value.
 unfoldable pub at_opening : Reader → ℕ → ℕ → Reader

@@ -6,7 +6,7 @@ use Rattle.common.specs.Answers.{Answer, gives, refuses}
 use Rattle.dump.specs.Wires.{wires}
 use Rattle.dump.specs.Dumps.{Moment}
 use Rattle.readback.specs.declared.Reader.{Reader}
-use Rattle.readback.specs.declared.Took.{Took}
+use Rattle.readback.specs.Answers.{Took}
 use Rattle.readback.specs.Bytes.{new_reader, byte_of}
 use Rattle.readback.specs.Reads.{is_bad, complete, begins, moment_of, before, read_from, bits, take_of, finish_of}
 

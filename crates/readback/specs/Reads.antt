@@ -8,7 +8,7 @@ use Rattle.dump.specs.Dumps.{Moment, opening_text, hash}
 use Rattle.readback.specs.declared.Place.{Place}
 use Rattle.readback.specs.declared.Place.TheVariants.{Opening, FirstValue, FirstCode, FirstEnd, Closing, Line, Time, Code, End, Bad}
 use Rattle.readback.specs.declared.Reader.{Reader}
-use Rattle.readback.specs.declared.Took.{Took}
+use Rattle.readback.specs.Answers.{Took}
 use Rattle.readback.specs.Bytes.{new_reader, may_end, byte_of}
 
 -- ---- Where a moment is over

@@ -4,7 +4,7 @@
 // proofs/Exact.antt that nothing else is; proofs/Calls.antt says the same of calls, however the dump is cut.
 #![tactic(auto)]
 
-ghost use Rattle.std.specs.Prelude.{◌≡◌, ◌<◌, length};
+ghost use Rattle.std.specs.Prelude.{◌≡◌, ◌<◌, ◌+◌, true, false, length, MatchOption};
 ghost use Rattle.dump.specs.Wires.{wires};
 ghost use Rattle.dump.specs.Dumps.{opening_text};
 ghost use Rattle.readback.specs.Bytes.{
@@ -12,8 +12,9 @@ ghost use Rattle.readback.specs.Bytes.{
   moved,
   bad,
   is_value,
+  value_of,
   told,
-  byte_of_text,
+  has_byte,
   at_opening,
   at_first_value,
   at_first_code,
@@ -32,16 +33,15 @@ ghost use Rattle.readback.specs.Reads.{
   is_bad,
   complete,
   begins,
-  refused,
   bits,
-  goes_on,
-  gives_moment,
   taken_from,
   take_of,
   finish_of,
 };
+ghost use Rattle.readback.specs.Answers.{took_says};
 
 use dump::{CLOSING_LENGTH, FIRST, OPENING_LENGTH, WIRES};
+use refusals::Refusal;
 
 // Where in a dump the reader is.
 #[derive(Clone, Copy)]
@@ -75,19 +75,48 @@ pub struct Reader {
     pub values: [bool; WIRES],
 }
 
-// What taking in a part gives: 0 or a refusal, whether a moment is complete, its time, how much of the part is used, and the
-// reader behind it. The moment's values stand in the lent buffer. At a 9 what is used are the bytes in front of the one that is refused.
+impl Place {
+    // At the start of a line.
+    fn is_line(self) -> bool
+        ensures { result ≡ is_line self }
+    {
+        matches!(self, Place::Line)
+    }
+
+    // Within what every dump begins with.
+    fn is_opening(self) -> bool
+        ensures { result ≡ is_opening self }
+    {
+        matches!(self, Place::Opening(_))
+    }
+
+    // Refused for good.
+    fn is_bad(self) -> bool
+        ensures { result ≡ is_bad self }
+    {
+        matches!(self, Place::Bad)
+    }
+}
+
+// What taking in a part gives: the time of the moment that is complete, where one is, how much of the part is used, and the reader behind
+// it. The moment's values stand in the lent buffer.
 #[derive(Clone, Copy)]
 pub struct Took {
-    pub refusal: u8,
-    pub given: bool,
-    pub time: u64,
+    pub moment: Option<u64>,
     pub used: usize,
     pub reader: Reader,
 }
 
+// A refusal, and how many bytes of the part stand in front of what is refused. The reader is as it was.
+#[derive(Clone, Copy)]
+pub struct Refused {
+    pub refusal: Refusal,
+    pub used: usize,
+}
+
 impl Reader {
     // A reader before the first byte.
+    #[tactic(auto, unfolding(crate::specs::Bytes::new_reader))]
     pub fn new() -> Self
         ensures { result ≡ new_reader }
     {
@@ -101,68 +130,75 @@ impl Reader {
 
     // Takes in a part of a dump, up to the byte that begins the next moment or to its end. Where a moment is complete, its values
     // go into the lent buffer of 26 bytes, each 0 or 1; the rest of the part is for the next call.
-    pub fn take(self, part: &[u8], values: &mut [u8]) -> Took
-        ensures { (result, values.new) ≡ take_of self part.now values.old }
+    #[tactic(auto, unfolding(crate::specs::Reads::take_of))]
+    pub fn take(self, part: &[u8], values: &mut [u8]) -> Result<Took, Refused>
+        ensures { (took_says self result, values.new) ≡ take_of self part.now values.old }
     {
         if values.len() != WIRES {
-            return self.refused(8, 0);
+            return refuse(Refusal::Room, 0);
         }
-        let place = self.place;
-        if is_opening(place) {
-            let text = dump::opening();
-            return self.take_all(&text, part, values);
+        if self.place.is_opening() {
+            return self.take_all(&dump::opening(), part, values);
         }
         self.take_all(part, part, values)
     }
 
     // The end of the dump: its last moment.
-    pub fn finish(self, values: &mut [u8]) -> Took
-        ensures { (result, values.new) ≡ finish_of self values.old }
+    #[tactic(auto, unfolding(crate::specs::Reads::finish_of))]
+    pub fn finish(self, values: &mut [u8]) -> Result<Took, Refused>
+        ensures { (took_says self result, values.new) ≡ finish_of self values.old }
     {
         if values.len() != WIRES {
-            return self.refused(8, 0);
+            return refuse(Refusal::Room, 0);
         }
-        if self.complete() {
-            let shown = self.values;
-            show(shown, values);
-            return self.gives(self.time, 0);
+        if !self.complete() {
+            return refuse(Refusal::Dump, 0);
         }
-        self.refused(9, 0)
+        show(self.values, values);
+        Ok(Took {
+            moment: Some(self.time),
+            used: 0,
+            reader: self,
+        })
     }
 
     // Takes in the part up to the byte that begins the next moment, or to its end. The text is what every dump begins with, made once for
     // all bytes of it; behind it any text will do.
-    fn take_all(self, text: &[u8], part: &[u8], values: &mut [u8]) -> Took
+    #[tactic(auto, using(crate::proofs::Turns::turns))]
+    fn take_all(self, text: &[u8], part: &[u8], values: &mut [u8]) -> Result<Took, Refused>
         requires { AtHand self text.now × (length values.old ≡ wires) }
-        ensures { (result, values.new) ≡ taken_from self self 0 part.now values.old }
+        ensures { (took_says self result, values.new) ≡ taken_from self self 0 part.now values.old }
     {
         let mut reader = self;
-        let mut i = 0;
-        while i < part.len() {
-            let b = part[i];
+        for (i, &b) in part.iter().enumerate() {
             let after = reader.byte(text, b);
-            let place = after.place;
-            if is_bad(place) {
-                return self.refused(9, i);
+            if after.place.is_bad() {
+                return refuse(Refusal::Dump, i);
             }
             if reader.begins(b) {
-                let shown = reader.values;
-                show(shown, values);
-                return after.gives(reader.time, i + 1);
+                show(reader.values, values);
+                return Ok(Took {
+                    moment: Some(reader.time),
+                    used: i + 1,
+                    reader: after,
+                });
             }
             reader = after;
-            i += 1;
         }
-        reader.goes_on(i)
+        Ok(Took {
+            moment: None,
+            used: part.len(),
+            reader,
+        })
     }
 
     // A byte.
+    #[tactic(auto, unfolding(crate::specs::Bytes::byte_of))]
     fn byte(self, text: &[u8], b: u8) -> Self
         requires { AtHand self text.now }
         ensures { result ≡ byte_of self b }
     {
-        let place = self.place;
-        match place {
+        match self.place {
             Place::Opening(at) => self.at_opening(text, at, b),
             Place::FirstValue => self.at_first_value(b),
             Place::FirstCode => self.at_first_code(b),
@@ -181,40 +217,37 @@ impl Reader {
         requires { text.now ≡ opening_text }
         ensures { result ≡ at_opening self at b }
     {
-        if OPENING_LENGTH <= at {
-            return self.bad();
+        match next_in(text, at, b) {
+            None => self.bad(),
+            Some(OPENING_LENGTH) => self.moved(Place::FirstValue),
+            Some(next) => self.moved(Place::Opening(next)),
         }
-        let same = b == text[at];
-        let last = at + 1 == OPENING_LENGTH;
-        self.at_text(same, last, Place::Opening(at + 1), Place::FirstValue)
     }
 
     // The value of the next wire at time 0.
+    #[tactic(auto, unfolding(crate::specs::Bytes::at_first_value))]
     fn at_first_value(self, b: u8) -> Self
         ensures { result ≡ at_first_value self b }
     {
-        let next = self.next;
-        if is_value(b) & (next < WIRES) {
-            return self.told(Place::FirstCode, next, b == b'1');
+        match value_of(b) {
+            Some(value) if self.next < WIRES => self.told(Place::FirstCode, self.next, value),
+            _ => self.bad(),
         }
-        self.bad()
     }
 
     // The code of that wire.
+    #[tactic(auto, unfolding(crate::specs::Bytes::at_first_code))]
     fn at_first_code(self, b: u8) -> Self
         ensures { result ≡ at_first_code self b }
     {
-        if b < FIRST {
-            return self.bad();
+        match b.checked_sub(FIRST) {
+            Some(wire) if wire as usize + 1 == self.next => self.moved(Place::FirstEnd),
+            _ => self.bad(),
         }
-        let wire = (b - FIRST) as usize;
-        if wire + 1 == self.next {
-            return self.moved(Place::FirstEnd);
-        }
-        self.bad()
     }
 
     // The end of that line.
+    #[tactic(auto, unfolding(crate::specs::Bytes::at_first_end))]
     fn at_first_end(self, b: u8) -> Self
         ensures { result ≡ at_first_end self b }
     {
@@ -231,48 +264,45 @@ impl Reader {
     fn at_closing(self, at: usize, b: u8) -> Self
         ensures { result ≡ at_closing self at b }
     {
-        if CLOSING_LENGTH <= at {
-            return self.bad();
+        match next_in(&dump::closing(), at, b) {
+            None => self.bad(),
+            Some(CLOSING_LENGTH) => self.moved(Place::Line),
+            Some(next) => self.moved(Place::Closing(next)),
         }
-        let text = dump::closing();
-        let same = b == text[at];
-        let last = at + 1 == CLOSING_LENGTH;
-        self.at_text(same, last, Place::Closing(at + 1), Place::Line)
     }
 
     // The start of a line behind the head.
+    #[tactic(auto, unfolding(crate::specs::Bytes::at_line))]
     fn at_line(self, b: u8) -> Self
         ensures { result ≡ at_line self b }
     {
-        if (b == b'#') & (0 < self.next) {
+        if b == b'#' && 0 < self.next {
             return self.moved(Place::Time(0));
         }
-        if is_value(b) {
-            return self.moved(Place::Code(b == b'1'));
+        match value_of(b) {
+            Some(value) => self.moved(Place::Code(value)),
+            None => self.bad(),
         }
-        self.bad()
     }
 
     // In a time.
+    #[tactic(auto, unfolding(crate::specs::Bytes::at_time))]
     fn at_time(self, n: u64, b: u8) -> Self
         ensures { result ≡ at_time self n b }
     {
-        if (b == b'\n') & (self.time < n) {
-            let values = self.values;
+        if b == b'\n' && self.time < n {
             return Reader {
                 place: Place::Line,
                 time: n,
                 next: 0,
-                values,
+                ..self
             };
         }
-        if b < b'0' {
-            return self.bad();
-        }
-        if b'9' < b {
+        if !b.is_ascii_digit() {
             return self.bad();
         }
         let digit = (b - b'0') as u64;
+        // checked_mul divides by the number so far, which made the reading of a dump an eighth slower; this divides by ten.
         if (u64::MAX - digit) / 10 < n {
             return self.bad();
         }
@@ -284,45 +314,30 @@ impl Reader {
     }
 
     // The code of a wire that changes.
+    #[tactic(auto, unfolding(crate::specs::Bytes::at_code))]
     fn at_code(self, value: bool, b: u8) -> Self
         ensures { result ≡ at_code self value b }
     {
-        if b < FIRST {
+        let Some(code) = b.checked_sub(FIRST) else {
             return self.bad();
-        }
-        let wire = (b - FIRST) as usize;
+        };
+        let wire = code as usize;
         if wire < self.next {
             return self.bad();
         }
-        if WIRES <= wire {
-            return self.bad();
+        match self.values.get(wire) {
+            Some(&told) if told != value => self.told(Place::End, wire, value),
+            _ => self.bad(),
         }
-        let values = self.values;
-        if values[wire] == value {
-            return self.bad();
-        }
-        self.told(Place::End, wire, value)
     }
 
     // The end of that line.
+    #[tactic(auto, unfolding(crate::specs::Bytes::at_end))]
     fn at_end(self, b: u8) -> Self
         ensures { result ≡ at_end self b }
     {
         if b == b'\n' {
             return self.moved(Place::Line);
-        }
-        self.bad()
-    }
-
-    // A byte of a text that every dump has, by whether it is that byte and the last one.
-    fn at_text(self, same: bool, last: bool, on: Place, behind: Place) -> Self
-        ensures { result ≡ byte_of_text self same last on behind }
-    {
-        if same {
-            if last {
-                return self.moved(behind);
-            }
-            return self.moved(on);
         }
         self.bad()
     }
@@ -336,9 +351,9 @@ impl Reader {
         values[wire] = value;
         Reader {
             place,
-            time: self.time,
             next: wire + 1,
             values,
+            ..self
         }
     }
 
@@ -353,139 +368,62 @@ impl Reader {
     fn moved(self, place: Place) -> Self
         ensures { result ≡ moved self place }
     {
-        let values = self.values;
-        Reader {
-            place,
-            time: self.time,
-            next: self.next,
-            values,
-        }
+        Reader { place, ..self }
     }
 
     // The dump may end here: a moment is complete.
+    #[tactic(auto, unfolding(crate::specs::Reads::complete))]
     fn complete(self) -> bool
         ensures { result ≡ complete self }
     {
-        let place = self.place;
-        is_line(place) & (0 < self.next)
+        self.place.is_line() && 0 < self.next
     }
 
     // The moment before is complete, and this byte begins the next one.
+    #[tactic(auto, unfolding(crate::specs::Reads::begins))]
     fn begins(self, b: u8) -> bool
         ensures { result ≡ begins self b }
     {
-        self.complete() & (b == b'#')
+        self.complete() && b == b'#'
     }
+}
 
-    // A refusal leaves the reader as it was. So many bytes of the part stand in front of what is refused.
-    fn refused(self, refusal: u8, used: usize) -> Took
-        ensures { result ≡ refused refusal used self }
-    {
-        Took {
-            refusal,
-            given: false,
-            time: 0,
-            used,
-            reader: self,
-        }
-    }
+// A refusal, with so many bytes of the part in front of it.
+fn refuse(refusal: Refusal, used: usize) -> Result<Took, Refused>
+    ensures { result ≡ Err (record { refusal = refusal; used = used }) }
+{
+    Err(Refused { refusal, used })
+}
 
-    // The part is used up, and no moment is complete.
-    fn goes_on(self, used: usize) -> Took
-        ensures { result ≡ goes_on self used }
-    {
-        Took {
-            refusal: 0,
-            given: false,
-            time: 0,
-            used,
-            reader: self,
-        }
-    }
-
-    // A moment at this time is complete, and this is the reader behind it.
-    fn gives(self, time: u64, used: usize) -> Took
-        ensures { result ≡ gives_moment time used self }
-    {
-        Took {
-            refusal: 0,
-            given: true,
-            time,
-            used,
-            reader: self,
-        }
+// The place behind this byte of a text, where the text has it there.
+fn next_in(text: &[u8], at: usize, b: u8) -> Option<usize>
+    ensures { MatchOption result (has_byte text.now at b ≡ false) (λ next. (next ≡ at + 1) × (has_byte text.now at b ≡ true)) }
+{
+    if text.get(at) == Some(&b) {
+        Some(at + 1)
+    } else {
+        None
     }
 }
 
 // A value, 0 or 1.
-fn is_value(b: u8) -> bool
-    ensures { result ≡ is_value b }
+fn value_of(b: u8) -> Option<bool>
+    ensures { MatchOption result (is_value b ≡ false) (λ value. (value ≡ value_of b) × (is_value b ≡ true)) }
 {
-    (b == b'0') | (b == b'1')
-}
-
-// At the start of a line.
-fn is_line(place: Place) -> bool
-    ensures { result ≡ is_line place }
-{
-    match place {
-        Place::Opening(_) => false,
-        Place::FirstValue => false,
-        Place::FirstCode => false,
-        Place::FirstEnd => false,
-        Place::Closing(_) => false,
-        Place::Line => true,
-        Place::Time(_) => false,
-        Place::Code(_) => false,
-        Place::End => false,
-        Place::Bad => false,
-    }
-}
-
-// Within what every dump begins with.
-fn is_opening(place: Place) -> bool
-    ensures { result ≡ is_opening place }
-{
-    match place {
-        Place::Opening(_) => true,
-        Place::FirstValue => false,
-        Place::FirstCode => false,
-        Place::FirstEnd => false,
-        Place::Closing(_) => false,
-        Place::Line => false,
-        Place::Time(_) => false,
-        Place::Code(_) => false,
-        Place::End => false,
-        Place::Bad => false,
-    }
-}
-
-// Refused for good.
-fn is_bad(place: Place) -> bool
-    ensures { result ≡ is_bad place }
-{
-    match place {
-        Place::Opening(_) => false,
-        Place::FirstValue => false,
-        Place::FirstCode => false,
-        Place::FirstEnd => false,
-        Place::Closing(_) => false,
-        Place::Line => false,
-        Place::Time(_) => false,
-        Place::Code(_) => false,
-        Place::End => false,
-        Place::Bad => true,
+    match b {
+        b'0' => Some(false),
+        b'1' => Some(true),
+        _ => None,
     }
 }
 
 // The values of a moment into the lent buffer, each 0 or 1.
+#[tactic(auto, using(crate::proofs::Turns::shown_turn))]
 fn show(values: [bool; WIRES], out: &mut [u8])
     requires { length out.old ≡ wires }
     ensures { out.new ≡ bits values }
 {
-    let mut i = 0;
-    while i < WIRES {
-        out[i] = values[i] as u8;
-        i += 1;
+    for (i, &value) in values.iter().enumerate() {
+        out[i] = u8::from(value);
     }
 }

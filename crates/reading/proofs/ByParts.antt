@@ -22,7 +22,7 @@ use Rattle.reading.specs.declared.Phase.TheVariants.{Ended}
 use Rattle.reading.specs.declared.Reading.{Reading}
 use Rattle.reading.specs.declared.Came.TheVariants.{Nothing}
 use Rattle.reading.specs.declared.Run.{Run}
-use Rattle.reading.specs.declared.Next.{Next}
+use Rattle.reading.specs.Answers.{Next}
 use Rattle.reading.specs.Rows.{row_of, over_of, read_from}
 use Rattle.reading.specs.Whole.{read_to}
 use Rattle.reading.specs.Ends.{Silent}

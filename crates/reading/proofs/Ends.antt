@@ -1,13 +1,13 @@
 -- How a reading ends: a row over 512 bytes is read as one that is over, a refusal ends the reading, after it there is nothing
 -- more to tell, and once a row is read there is nothing to tell of the end of the input. Each by the phases.
 -- Assumes nothing.
+use Rattle.std.specs.Prelude.{Option}
 use Prim.Native.Nat.{ℕ, ◌<◌}
 use mathlib.Core.List.{List}
 use mathlib.Core.Path.{◌≡◌, refl}
 use borrow.Author.Tests.{lt-ltb}
 use lib.ListN.{length}
 use Rattle.common.specs.Answers.{Answer as RowAnswer, gives, refuses}
-use Rattle.trace.specs.declared.Due.{Due}
 use Rattle.trace.specs.Rows.{longest_row, read_row}
 use Rattle.controller.specs.declared.State.{State}
 use Rattle.reading.specs.declared.Phase.{Phase}
@@ -70,7 +70,7 @@ unfolding end_of
 header_past state row =
     by_first_row Past state row (λ refusal. refusal_past 1 refusal state) (record { ends = λ l n g. cc; quiet = refl })
 
-read_past : (due : Due) (state : State) (answer : RowAnswer (ℕ × ℕ)) (sample : List ℕ) → Past (as_read due state answer sample)
+read_past : (due : Option ℕ) (state : State) (answer : RowAnswer (ℕ × ℕ)) (sample : List ℕ) → Past (as_read due state answer sample)
 unfolding shown_row end_of
 read_past due state (gives head) sample = record { ends = λ l n g. cc; quiet = refl }
 read_past due state (refuses n) sample = refusal_past _ n state

@@ -4,17 +4,17 @@
 use Prim.Native.Nat.{ℕ, zero, suc, ◌+◌, ◌-◌, ◌<◌, ◌≤◌}
 use native.Mathlib.Omega.{arith}
 use mathlib.Core.Bool.{Bool, true, false, cond, ◌&&◌, false≢true}
-use mathlib.Core.List.{List, [], ◌++◌, append_assoc}
+use mathlib.Core.List.{List, [], ◌++◌, append_assoc, append-nil}
 use mathlib.Core.Path.{◌≡◌, refl, sym, ap, ap₂, ◌∙◌}
 use borrow.Author.Tests.{eq-eqb, ne_eqb, eqb-true, eqb-false, ltb-true, leb-true, leb-false, lt-ltb, le-ltb, le-leb}
 use lib.Dec.{eqb, leb, ltb}
-use lib.ListN.{length, take, drop, length-append, length-drop}
-use lib.Seq.{length-take-le, take_at, drop_at, take-add, drop-drop, take-append_seam, drop-append_seam}
+use lib.ListN.{length, take, drop, length-append, length-drop, drop_of_length-le}
+use lib.Seq.{length-take-le, take_all, take_at, drop_at, take-add, drop-drop, take-append_seam, drop-append_seam}
 use Rattle.lines.proofs.Steps.{either}
 use Rattle.controller.specs.declared.State.{State}
 use Rattle.reading.specs.declared.Came.TheVariants.{Nothing}
 use Rattle.reading.specs.declared.Run.{Run}
-use Rattle.reading.specs.declared.Next.{Next}
+use Rattle.reading.specs.Answers.{Next}
 use Rattle.reading.specs.Rows.{has_ended}
 use Rattle.reading.specs.Parts.{line_bytes, take_of, finish_of}
 use Rattle.reading.specs.Runs.{Teller, Outcome, behind, Answer, calls, take_by, finish_by, to_come, Right, wrote}
@@ -295,3 +295,46 @@ module _ {A : Type 0} (tell : Teller A) (quiet : (a : A) (before after : State) 
     -- and where there is no further turn, what is given so far is the answer.
     pub loop_ends : Reaches answer so_far → goes_on room part so_far ≡ false → so_far ≡ answer
     loop_ends r t = no_turn r.turns so_far t ∙ sym r.same
+
+  -- A turn is a call with what is left of the part and of the output buffer, as they are lent.
+  module _ (so_far : Answer A) where
+    abbrev pub part_left : List ℕ
+    part_left = take (length part - so_far.0.used) (drop so_far.0.used part)
+
+    abbrev pub out_left : List ℕ
+    out_left = take (length so_far.2 - so_far.0.written) (drop so_far.0.written so_far.2)
+
+    -- What was given so far and what the call gave, with what was lent put back.
+    abbrev pub put_back : Answer A → Answer A
+    put_back call = (
+      (joined so_far call).0,
+      call.1,
+      take so_far.0.written so_far.2 ++ (call.2 ++ drop (length so_far.2 - so_far.0.written) (drop so_far.0.written so_far.2)),
+    )
+
+    call_lent : (call : Answer A) → call ≡ take_by tell room so_far.0.carried so_far.0.run part_left so_far.1 out_left → call ≡ call_from tell room part so_far
+    call_lent call e =
+        let p = take_all (length part - so_far.0.used) (drop so_far.0.used part) (omega (arith, length-drop so_far.0.used part)) in
+        let o = take_all (length so_far.2 - so_far.0.written) (drop so_far.0.written so_far.2) (omega (arith, length-drop so_far.0.written so_far.2)) in
+        rw (p, o) at e
+
+    turn_lent : (call : Answer A) → call ≡ call_from tell room part so_far → put_back call ≡ turn_from tell room part so_far
+    turn_lent call e =
+        let gone = drop_of_length-le (drop so_far.0.written so_far.2) {i = length so_far.2 - so_far.0.written} (omega (arith, length-drop so_far.0.written so_far.2)) in
+        rw (gone, append-nil call.2) (ap (joined so_far) e)
+
+    turn_taken : goes_on room part so_far ≡ true → length so_far.1 ≡ line_bytes → (call_from tell room part so_far).0.refusal ≡ 0
+    turn_taken t full = rw (call_is so_far (goes room part so_far t).has_room) (call_right so_far full).taken
+
+    -- It leads on to the answer, uses some of the part, and is not refused.
+    pub record LedOn (answer call : Answer A) : Type 0 where
+      pub reaches : Reaches answer (put_back call)
+      pub uses : 0 < call.0.used
+      pub taken : call.0.refusal ≡ 0
+
+    pub led_on : (answer call : Answer A) → Reaches answer so_far → goes_on room part so_far ≡ true
+        → call ≡ take_by tell room so_far.0.carried so_far.0.run part_left so_far.1 out_left → LedOn answer call
+    led_on answer call r t e =
+        let is = call_lent call e in
+        let again = loop_again answer so_far r t in
+        record { reaches = rw (turn_lent call is) again.0; uses = rw is again.1; taken = rw is (turn_taken t r.full) }

@@ -1,12 +1,12 @@
 -- The first row by its two cases, which are the same for every controller: it ends the reading on line 1, or it is the header.
 -- Assumes nothing.
+use Rattle.std.specs.Prelude.{Some}
 use Prim.Native.Nat.{ℕ}
 use mathlib.Core.List.{List}
 use mathlib.Core.Path.{◌≡◌}
 use lib.Dec.{ltb}
 use lib.ListN.{length}
 use Rattle.lines.proofs.Steps.{either}
-use Rattle.trace.specs.declared.Due.TheVariants.{Label}
 use Rattle.trace.specs.Rows.{longest_row}
 use Rattle.trace.specs.Header.{header_text as trace_header, same_text}
 use Rattle.controller.specs.declared.State.{State}
@@ -16,7 +16,7 @@ use Rattle.reading.specs.Rows.{untold, ends_at, header_row}
 
 pub data First (row : List ℕ) : Type 0 where
   ends : (refusal : ℕ) → ((state : State) → header_row state row ≡ ends_at 1 refusal state) → First row
-  opens : ((state : State) → header_row state row ≡ untold (record { phase = Rows (Label 0); state = state })) → First row
+  opens : ((state : State) → header_row state row ≡ untold (record { phase = Rows (Some 0); state = state })) → First row
 
 pub first_row : (row : List ℕ) → First row
 unfolding header_row
@@ -27,7 +27,7 @@ first_row row =
 -- What holds of both holds of the row.
 pub by_first_row : (P : Heard → Type 0) (state : State) (row : List ℕ)
     → ((refusal : ℕ) → P (ends_at 1 refusal state))
-    → P (untold (record { phase = Rows (Label 0); state = state }))
+    → P (untold (record { phase = Rows (Some 0); state = state }))
     → P (header_row state row)
 by_first_row P state row ended opened = by (first_row row) where
   by : First row → P (header_row state row)

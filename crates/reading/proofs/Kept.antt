@@ -1,11 +1,11 @@
 -- What a new start stamp and every step keep of a controller, a whole trace keeps.
 -- Assumes nothing.
+use Rattle.std.specs.Prelude.{Option}
 use Prim.Native.Nat.{ℕ}
 use mathlib.Core.List.{List, [], ◌∷◌}
 use lib.Dec.{eqb}
 use Rattle.common.specs.Answers.{Answer as RowAnswer, gives, refuses}
 use Rattle.lines.proofs.Steps.{either}
-use Rattle.trace.specs.declared.Due.{Due}
 use Rattle.trace.specs.Rows.{read_row}
 use Rattle.controller.specs.declared.State.{State}
 use Rattle.controller.specs.Start.{started_at}
@@ -27,7 +27,7 @@ module _ (P : State → Type 0) (starts : (s : State) (stamp : ℕ) → P s → 
   unfolding answer_to
   answer_keeps s label stamp sample p = either (eqb label 0) (λ e. rw e (starts s stamp p)) (λ e. rw e (steps s stamp sample p))
 
-  read_keeps : (due : Due) (s : State) (answer : RowAnswer (ℕ × ℕ)) (sample : List ℕ) → P s → After (as_read due s answer sample)
+  read_keeps : (due : Option ℕ) (s : State) (answer : RowAnswer (ℕ × ℕ)) (sample : List ℕ) → P s → After (as_read due s answer sample)
   unfolding shown_row ends_at
   read_keeps due s (gives head) sample p = answer_keeps s head.0 head.1 sample p
   read_keeps due s (refuses n) sample p = p

@@ -16,7 +16,7 @@ use Rattle.lines.specs.declared.Final.TheVariants.{Nothing as NoRow, Last, Wider
 use Rattle.lines.proofs.Law.{cut_law, last_law}
 use Rattle.lines.proofs.Steps.{either}
 use Rattle.reading.specs.declared.Run.{Run}
-use Rattle.reading.specs.declared.Next.{Next}
+use Rattle.reading.specs.Answers.{Next}
 use Rattle.reading.specs.Parts.{line_bytes, Fits, piece_of, last_piece, refused, take_of, finish_of}
 use Rattle.reading.specs.Runs.{Teller, Answer, calls, lent, take_by, finish_by}
 
@@ -34,33 +34,16 @@ last_fits line len c NoRow line' e = Prim.tt
 last_fits line len c (Last n) line' e = (last_law line len c (Last n) line' e).1.0
 last_fits line len c Wider line' e = Prim.tt
 
--- ---- In the part and in the output buffer
+-- ---- In the part
 
--- So much of the part is used,
+-- So much of the part is used.
 cut_within : (part line : List ℕ) (len : ℕ) (c : Bool) (r : Taken) (line' : List ℕ) → (r, line') ≡ cut_of part 0 line len c
     → (piece_of r (length part)).used ≤ length part
 cut_within part line len c (Row used n) line' e = (cut_law part 0 line len c (Row used n) line' e).1.inside
 cut_within part line len c (More n c') line' e = omega arith
 cut_within part line len c Over line' e = omega arith
 
-used_within : (run : Run) (part line : List ℕ) → (take_of run part line).0.used ≤ length part
+pub used_within : (run : Run) (part line : List ℕ) → (take_of run part line).0.used ≤ length part
 unfolding take_of refused
 used_within run part line =
     either (eqb (length line) line_bytes) (λ t. rw t (cut_within part line run.len run.cr _ _ refl)) (λ t. rw t (omega arith))
-
--- and so much is written.
-abbrev Lies : {A : Type 0} → ℕ → Answer A → Type 0
-Lies size answer = (answer.0.used ≤ size) × (answer.0.written ≤ length answer.2)
-
-module _ {A : Type 0} (tell : Teller A) (room : ℕ) (a : A) (run : Run) (line out : List ℕ) where
-  call_lies : (size : ℕ) (next : Next × List ℕ) → next.0.used ≤ size → Lies size (lent room a run line out (calls tell a run next out))
-  call_lies size next h =
-      either (ltb (length out) room) (λ t. rw t (omega arith, omega arith)) (λ t. rw t (h, simp length-append (omega arith)))
-
-  pub take_lies : (part : List ℕ) → Lies (length part) (take_by tell room a run part line out)
-  unfolding take_by
-  take_lies part = call_lies (length part) (take_of run part line) (used_within run part line)
-
-  pub finish_lies : (finish_by tell room a run line out).0.written ≤ length (finish_by tell room a run line out).2
-  unfolding finish_by
-  finish_lies = (call_lies (finish_of run line).0.used (finish_of run line) (omega arith)).1

@@ -2,9 +2,25 @@
 -- Assumes nothing.
 use Prim.Native.Nat.{ℕ}
 use mathlib.Core.List.{List}
-use mathlib.Core.Path.{◌∙◌, sym}
+use mathlib.Core.Path.{◌≡◌, ◌∙◌, sym, ap}
+use Rattle.std.specs.Prelude.{Result, Ok, Err}
+use Rattle.refusals.specs.declared.Refusal.{Refusal}
+use Rattle.refusals.proofs.Laws.{one_number, no_zero}
 use Rattle.common.specs.OneAnswer.{OneAnswer, OneAnswerAnd}
-use Rattle.common.proofs.Pairs.{both}
+use Rattle.common.proofs.Pairs.{both, all_three}
+use denote.Param.Laws.{Laws, IsCopy}
+use denote.RattleType.{RattleType}
+use mir.Syntax.{Dict}
+use Rattle.std.specs.declared.clone.Clone
+use Rattle.reading.specs.declared.telling.Tell
+use Rattle.reading.specs.declared.telling.Took.{Took}
+use Rattle.reading.specs.Runs.{Called}
+use Rattle.reading.specs.Called.{called_says}
+use Rattle.reading.specs.declared.Next.{Next as Given}
+use Rattle.reading.specs.declared.Run.{Run}
+use Rattle.reading.specs.Answers.{Next, next_says}
+use Rattle.reading.proofs.Phase.line.Kinds as line_kinds
+use Rattle.reading.proofs.Phase.line.Reads as line_reads
 use Rattle.reading.proofs.Phase.has_ended.Kinds as has_ended_kinds
 use Rattle.reading.proofs.Phase.has_ended.Reads as has_ended_reads
 use Rattle.reading.proofs.Phase.has_started.Kinds as has_started_kinds
@@ -31,6 +47,22 @@ use Rattle.reading.proofs.Run.take.Kinds as run_take_kinds
 use Rattle.reading.proofs.Run.take.Reads as run_take_reads
 use Rattle.reading.proofs.Run.finish.Kinds as run_finish_kinds
 use Rattle.reading.proofs.Run.finish.Reads as run_finish_reads
+use Rattle.reading.proofs.telling.take.Kinds as telling_take_kinds
+use Rattle.reading.proofs.telling.take.Reads as telling_take_reads
+use Rattle.reading.proofs.telling.finish.Kinds as telling_finish_kinds
+use Rattle.reading.proofs.telling.finish.Reads as telling_finish_reads
+use Rattle.reading.proofs.telling.fill.Kinds as telling_fill_kinds
+use Rattle.reading.proofs.telling.fill.Reads as telling_fill_reads
+
+-- Two answers that come to the same are one.
+one_next : (run : Run) (x y : Result Given Refusal) → next_says run x ≡ next_says run y → x ≡ y
+one_next run (Ok x) (Ok y) e = λ i. Ok (record { run = (e i).run; came = (e i).came; used = (e i).used })
+one_next run (Ok x) (Err r) e = absurd (no_zero r (sym (ap (λ (n : Next). n.refusal) e)))
+one_next run (Err r) (Ok y) e = absurd (no_zero r (ap (λ (n : Next). n.refusal) e))
+one_next run (Err r) (Err s) e = ap (λ (q : Refusal). Err q) (one_number r s (ap (λ (n : Next). n.refusal) e))
+
+pub line_once : OneAnswer 0 line_kinds.ps line_kinds.r line_reads.Post
+line_once κs a x y s t p q = p ∙ sym q
 
 pub has_ended_once : OneAnswer 0 has_ended_kinds.ps has_ended_kinds.r has_ended_reads.Post
 has_ended_once κs a x y s t p q = p ∙ sym q
@@ -67,7 +99,28 @@ run_state_once κs a x y s t p q = p ∙ sym q
 
 -- With the line buffer, as `take` and `finish` leave it.
 pub run_take_once : OneAnswerAnd 2 run_take_kinds.ps run_take_kinds.r run_take_reads.Post (List ℕ) (λ κs s. s.1.1.0.now)
-run_take_once κs a x y s t p q = both (p ∙ sym q)
+run_take_once κs a x y s t p q = let e = both (p ∙ sym q) in (one_next a.0 x y e.0, e.1)
 
 pub run_finish_once : OneAnswerAnd 1 run_finish_kinds.ps run_finish_kinds.r run_finish_reads.Post (List ℕ) (λ κs s. s.1.0.now)
-run_finish_once κs a x y s t p q = both (p ∙ sym q)
+run_finish_once κs a x y s t p q = let e = both (p ∙ sym q) in (one_next a.0 x y e.0, e.1)
+
+-- Whatever the teller: `T` is its type, and `C` that of what is carried on.
+one_called : {A : Type 0} (a : A) (run : Run) (x y : Result (Took A) Refusal) → called_says a run x ≡ called_says a run y → x ≡ y
+one_called a run (Ok x) (Ok y) e = λ i. Ok (record { run = (e i).run; carried = (e i).carried; used = (e i).used; written = (e i).written })
+one_called {A} a run (Ok x) (Err r) e = absurd (no_zero r (sym (ap (λ (t : Called A). t.refusal) e)))
+one_called {A} a run (Err r) (Ok y) e = absurd (no_zero r (ap (λ (t : Called A). t.refusal) e))
+one_called {A} a run (Err r) (Err s) e = ap (λ (q : Refusal). Err q) (one_number r s (ap (λ (t : Called A). t.refusal) e))
+
+module _ (T C : RattleType) (tells : Laws T) (carries : Laws C) (copies : IsCopy C) (tell : Tell.Ghosts T.Denot C.Denot) (d : Dict)
+    (clone : Clone.Ghosts C.Denot) (e : Dict) where
+  pub telling_take_once : OneAnswerAnd 5 (telling_take_kinds.ps T C tells carries copies) (telling_take_kinds.r T C tells carries copies)
+      (telling_take_reads.Post T C tells carries copies tell d clone e) (List ℕ × List ℕ) (λ κs s. (s.1.1.1.0.now, s.1.1.1.1.0.now))
+  telling_take_once κs a x y s t p q = let f = all_three (p.0 ∙ sym q.0) in (one_called a.0 a.1.0 x y f.0, f.1)
+
+  pub telling_finish_once : OneAnswerAnd 4 (telling_finish_kinds.ps T C tells carries copies) (telling_finish_kinds.r T C tells carries copies)
+      (telling_finish_reads.Post T C tells carries copies tell d clone e) (List ℕ × List ℕ) (λ κs s. (s.1.1.0.now, s.1.1.1.0.now))
+  telling_finish_once κs a x y s t p q = let f = all_three (p.0 ∙ sym q.0) in (one_called a.0 a.1.0 x y f.0, f.1)
+
+  pub telling_fill_once : OneAnswerAnd 5 (telling_fill_kinds.ps T C tells carries copies) (telling_fill_kinds.r T C tells carries copies)
+      (telling_fill_reads.Post T C tells carries copies tell d clone e) (List ℕ × List ℕ) (λ κs s. (s.1.1.1.0.now, s.1.1.1.1.0.now))
+  telling_fill_once κs a x y s t p q = let f = all_three (p.0 ∙ sym q.0) in (one_called a.0 a.1.0 x y f.0, f.1)

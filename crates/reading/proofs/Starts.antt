@@ -1,6 +1,7 @@
 -- How a reading starts. Row 0 gives the controller that is held its start stamp, which in a run of `replay` is a fresh start; and
 -- row 0 has been read exactly if some row was answered.
 -- Assumes nothing.
+use Rattle.std.specs.Prelude.{Option, Some, None}
 use Prim.Native.Nat.{ℕ, ◌+◌}
 use native.Mathlib.Omega.{arith}
 use mathlib.Core.Bool.{Bool, true, false, ◌||◌, or-false}
@@ -11,8 +12,6 @@ use lib.Dec.{ltb}
 use Rattle.common.specs.Answers.{Answer as RowAnswer, gives, refuses}
 use Rattle.common.specs.Ascii.{joined_by_commas}
 use Rattle.lines.proofs.Steps.{either}
-use Rattle.trace.specs.declared.Due.{Due}
-use Rattle.trace.specs.declared.Due.TheVariants.{Label, Nothing as NoLabel}
 use Rattle.trace.specs.Numbers.{greatest}
 use Rattle.trace.specs.Rows.{read_row}
 use Rattle.names.specs.Words.{sensor_names}
@@ -53,24 +52,24 @@ row_0_is_a_fresh_start stamp = refl
 
 -- Behind the header row 0 is due, and the controller is as it was.
 pub behind_the_header : (state : State)
-    → row_of (read_from state) trace_header ≡ untold (record { phase = Rows (Label 0); state = state })
+    → row_of (read_from state) trace_header ≡ untold (record { phase = Rows (Some 0); state = state })
 unfolding row_of header_row trace_header header_names sensor_names joined_by_commas same_text
 behind_the_header state = refl
 
 -- A row that is read there is row 0: it is answered with 0, and the controller goes on at its stamp.
 pub row_0_starts : (state : State) (row : List ℕ) (label stamp : ℕ) (sample : List ℕ)
-    → read_row row (Label 0) no_sample ≡ (gives (label, stamp), sample)
-    → row_of (record { phase = Rows (Label 0); state = state }) row
-    ≡ shown_row (Label 0) 0 (record { refusal = 0; state = started_at stamp state })
+    → read_row row (Some 0) no_sample ≡ (gives (label, stamp), sample)
+    → row_of (record { phase = Rows (Some 0); state = state }) row
+    ≡ shown_row (Some 0) 0 (record { refusal = 0; state = started_at stamp state })
 unfolding row_of trace_row answer_to
 row_0_starts state row label stamp sample e =
-    let due = (what_is_taken_is_of_the_form row (Label 0) no_sample label stamp sample e).was_due in
+    let due = (what_is_taken_is_of_the_form row (Some 0) no_sample label stamp sample e).was_due in
     let same : label ≡ 0 = cc in rw (e, same)
 
 -- In a run of `replay` it is a fresh start.
 pub row_0_starts_fresh : (row : List ℕ) (label stamp : ℕ) (sample : List ℕ)
-    → read_row row (Label 0) no_sample ≡ (gives (label, stamp), sample)
-    → row_of (row_of nothing_read trace_header).reading row ≡ shown_row (Label 0) 0 (record { refusal = 0; state = fresh_of stamp })
+    → read_row row (Some 0) no_sample ≡ (gives (label, stamp), sample)
+    → row_of (row_of nothing_read trace_header).reading row ≡ shown_row (Some 0) 0 (record { refusal = 0; state = fresh_of stamp })
 unfolding nothing_read
 row_0_starts_fresh row label stamp sample e =
     rw (behind_the_header (fresh_of 0), ← row_0_is_a_fresh_start stamp) (row_0_starts (fresh_of 0) row label stamp sample e)
@@ -82,11 +81,11 @@ abbrev StartsBy : Bool → Heard → Type 0
 StartsBy before heard = has_started heard.reading.phase ≡ (is_answered heard.came || before)
 
 -- Behind a row that is answered the next line is past row 0's.
-next_line : (due : Due) → ltb 2 (line_of (next_due due)) ≡ true
-next_line (Label n) = either (ltb n greatest) (λ t. rw t (lt-ltb 2 (n + 1 + 2) (omega arith))) (λ t. rw t)
-next_line NoLabel = refl
+next_line : (due : Option ℕ) → ltb 2 (line_of (next_due due)) ≡ true
+next_line (Some n) = either (ltb n greatest) (λ t. rw t (lt-ltb 2 (n + 1 + 2) (omega arith))) (λ t. rw t)
+next_line None = refl
 
-read_starts : (due : Due) (state : State) (answer : RowAnswer (ℕ × ℕ)) (sample : List ℕ)
+read_starts : (due : Option ℕ) (state : State) (answer : RowAnswer (ℕ × ℕ)) (sample : List ℕ)
     → StartsBy (ltb 2 (line_of due)) (as_read due state answer sample)
 unfolding shown_row ends_at
 read_starts due state (gives head) sample = next_line due

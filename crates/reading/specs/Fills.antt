@@ -7,6 +7,12 @@ use Rattle.reading.specs.Rows.{has_ended}
 use Rattle.reading.specs.Parts.{line_bytes}
 use Rattle.reading.specs.Runs.{Teller, behind, Answer, lent, take_by, to_come, wrote}
 
+-- ---- A text
+
+-- What is carried on, and how many bytes a text has, which stands in front of the output buffer.
+abbrev pub in_front : {A : Type 0} → A × List ℕ → List ℕ → (A × ℕ) × List ℕ
+in_front told out = ((told.0, length told.1), told.1 ++ drop (length told.1) out)
+
 -- ---- One turn
 
 -- Before the first turn: nothing is used and nothing written, with 0 or refusal 8.

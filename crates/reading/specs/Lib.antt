@@ -2,6 +2,8 @@ pub mod Rows
 pub mod Ends
 pub mod Whole
 pub mod SessionS
+pub mod Answers
 pub mod Parts
 pub mod Runs
 pub mod Fills
+pub mod Called

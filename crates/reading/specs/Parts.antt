@@ -14,7 +14,7 @@ use Rattle.reading.specs.declared.Reading.{Reading}
 use Rattle.reading.specs.declared.Came.TheVariants.{Nothing}
 use Rattle.reading.specs.declared.Heard.{Heard}
 use Rattle.reading.specs.declared.Run.{Run}
-use Rattle.reading.specs.declared.Next.{Next}
+use Rattle.reading.specs.Answers.{Next}
 use Rattle.reading.specs.declared.Found.{Found}
 use Rattle.reading.specs.declared.Found.TheVariants.{Whole, TooLong, Unfinished, End}
 use Rattle.reading.specs.declared.Piece.{Piece}

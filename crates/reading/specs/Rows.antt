@@ -1,15 +1,13 @@
 -- Document 01, "The trace and its program": what each row of a trace comes to. Each row gives how far the trace is read after
 -- it, and what there is to tell of it: its label and 0 or a refusal, with the state after it, or the refusal that ends it.
 -- Assumes nothing.
-use Rattle.std.specs.Prelude.{ℕ, ◌+◌, Bool, true, false, cond, List, eqb, ltb, length, replicate}
+use Rattle.std.specs.Prelude.{ℕ, ◌+◌, Bool, true, false, cond, List, eqb, ltb, length, replicate, Option, Some, None}
 use Rattle.common.specs.Answers.{Answer as RowAnswer, gives, refuses}
-use Rattle.trace.specs.declared.Due.{Due}
-use Rattle.trace.specs.declared.Due.TheVariants.{Label, Nothing as NoLabel}
 use Rattle.trace.specs.Numbers.{greatest}
 use Rattle.trace.specs.Rows.{longest_row, read_row}
 use Rattle.trace.specs.Header.{header_text as trace_header, same_text}
 use Rattle.controller.specs.declared.State.{State}
-use Rattle.controller.specs.declared.Answer.{Answer}
+use Rattle.controller.specs.Answers.{Answer}
 use Rattle.controller.specs.Start.{fresh_of, started_at}
 use Rattle.controller.specs.Steps.{step_of}
 use Rattle.reading.specs.declared.Phase.{Phase}
@@ -21,14 +19,20 @@ use Rattle.reading.specs.declared.Heard.{Heard}
 -- ---- Labels and lines
 
 -- Labels count 0, 1, 2 and so on as numbers. After 4,294,967,295 no label is due.
-abbrev pub next_due : Due → Due
-next_due (Label n) = cond (ltb n greatest) (Label (n + 1)) NoLabel
-next_due NoLabel = NoLabel
+abbrev pub next_due : Option ℕ → Option ℕ
+next_due (Some n) = cond (ltb n greatest) (Some (n + 1)) None
+next_due None = None
 
 -- The line number of the row that is due: the header is line 1, so the row of label 0 is line 2.
-abbrev pub line_of : Due → ℕ
-line_of (Label n) = n + 2
-line_of NoLabel = greatest + 3
+abbrev pub line_of : Option ℕ → ℕ
+line_of (Some n) = n + 2
+line_of None = greatest + 3
+
+-- The line that is due, or that the reading ended on.
+abbrev pub line_at : Phase → ℕ
+line_at Header = 1
+line_at (Rows due) = line_of due
+line_at (Ended line refusal) = line
 
 -- ---- One row
 
@@ -45,7 +49,7 @@ ends_at line refusal state = record { reading = record { phase = Ended line refu
 unfoldable pub header_row : State → List ℕ → Heard
 header_row state row =
     cond (ltb longest_row (length row)) (ends_at 1 6 state)
-    (cond (same_text row trace_header) (untold (record { phase = Rows (Label 0); state = state }))
+    (cond (same_text row trace_header) (untold (record { phase = Rows (Some 0); state = state }))
     (ends_at 1 5 state))
 
 -- Row 0 gives the start stamp; its sample is read but not used. (A run of `replay` starts from a fresh controller, so its row 0
@@ -56,7 +60,7 @@ answer_to state label stamp sample =
 
 -- One row per row: label, 0 or the refusal, and the state to show; after a refusal 3 or 4 that is the state kept. A row that
 -- gets 3 or 4 uses up its label.
-unfoldable pub shown_row : Due → ℕ → Answer → Heard
+unfoldable pub shown_row : Option ℕ → ℕ → Answer → Heard
 shown_row due label answer =
     record {
       reading = record { phase = Rows (next_due due); state = answer.state };
@@ -64,7 +68,7 @@ shown_row due label answer =
     }
 
 -- What the row reader answers, with the sample that it read.
-abbrev pub as_read : Due → State → RowAnswer (ℕ × ℕ) → List ℕ → Heard
+abbrev pub as_read : Option ℕ → State → RowAnswer (ℕ × ℕ) → List ℕ → Heard
 as_read due state (gives head) sample = shown_row due head.0 (answer_to state head.0 head.1 sample)
 as_read due state (refuses n) sample = ends_at (line_of due) n state
 
@@ -73,7 +77,7 @@ unfoldable pub no_sample : List ℕ
 no_sample = replicate 54 0
 
 -- A row after the header, which must bear the label that is due.
-unfoldable pub trace_row : Due → State → List ℕ → Heard
+unfoldable pub trace_row : Option ℕ → State → List ℕ → Heard
 trace_row due state row = as_read due state (read_row row due no_sample).0 (read_row row due no_sample).1
 
 -- A row of the trace, by how far it is read. After a refusal there is nothing more to tell.

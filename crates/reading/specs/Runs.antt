@@ -9,7 +9,7 @@ use Rattle.reading.specs.declared.Reading.{Reading}
 use Rattle.reading.specs.declared.Came.{Came}
 use Rattle.reading.specs.declared.Heard.{Heard}
 use Rattle.reading.specs.declared.Run.{Run}
-use Rattle.reading.specs.declared.Next.{Next}
+use Rattle.reading.specs.Answers.{Next}
 use Rattle.reading.specs.Rows.{row_of, end_of}
 use Rattle.reading.specs.Parts.{line_bytes, between, take_of, finish_of}
 

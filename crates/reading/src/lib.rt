@@ -2,27 +2,32 @@
 // specs/Rows.antt (document 01, "The trace and its program"). A trace is taken in by parts of any size, one row a call: specs/Parts.antt
 // says what a call gives. What is made of a row is another crate's: `lesson` writes it as a row of `replay`, and `dumping` as a moment of
 // `waves`. For all of them specs/Runs.antt says what a whole run by parts is, and proofs/ByParts.antt that however the input is cut, the run
-// comes to what the rows of the whole come to. specs/Fills.antt says what they give where a whole part goes into one output buffer.
+// comes to what the rows of the whole come to. specs/Fills.antt says what they give where a whole part goes into one output buffer. The calls
+// of such a run are those of `telling`, whatever the teller.
 #![tactic(auto)]
 
-ghost use Rattle.std.specs.Prelude.{◌≡◌, ◌≤◌, false, length};
-ghost use Rattle.reading.specs.declared.Came.TheVariants.{Nothing};
+ghost use Rattle.std.specs.Prelude.{◌≡◌, ◌≤◌, length, Ok};
+ghost use Rattle.refusals.specs.Numbers.{number_of};
+ghost use Rattle.controller.specs.Answers.{answer_says};
+ghost use Rattle.reading.specs.Answers.{next_says};
 ghost use Rattle.reading.specs.Parts.{
   run_from,
   new_run,
+  up_to,
   piece_of,
   last_piece,
   Fits,
   found_by,
   next_by,
-  refused,
   take_of,
   finish_of,
 };
 ghost use Rattle.reading.specs.Rows.{
   next_due,
-  line_of,
+  line_at,
+  untold,
   ends_at,
+  shown_row,
   header_row,
   answer_to,
   trace_row,
@@ -35,20 +40,23 @@ ghost use Rattle.reading.specs.Rows.{
   nothing_read,
 };
 
-use controller::{Answer, State};
+pub mod telling;
+
+use controller::State;
 use lines::{Final, Taken};
-use trace::{Due, Row};
+use refusals::Refusal;
 
 // A row has at most so many bytes, and so has the line buffer.
 pub const LINE: usize = trace::LONGEST_ROW;
 
-// How far a trace has been read.
+// How far a trace has been read. (A refusal is its number here and in `Came`: that is what a row of `replay` bears, and what the theorems on whole
+// files speak of, `codes_are` and `numbers_tell_the_place` in files/proofs/EachRow.antt.)
 #[derive(Clone, Copy)]
 pub enum Phase {
     // Nothing yet: the header is due.
     Header,
-    // The header and the rows before the one that is due.
-    Rows(Due),
+    // The header and the rows before the one whose label is due. After 4,294,967,295 no label is.
+    Rows(Option<u32>),
     // Up to the refusal that ended the reading: its line and its number.
     Ended { line: u64, refusal: u8 },
 }
@@ -60,7 +68,7 @@ pub struct Reading {
     pub state: State,
 }
 
-// What a row came to, beside what was read with it.
+// What a row came to, beside what was read with it. (Three outcomes: `Nothing` is that of the header, and no want of one.)
 #[derive(Clone, Copy)]
 pub enum Came {
     // The header, or a row after the end: there is nothing to tell.
@@ -86,19 +94,18 @@ pub struct Run {
     pub cr: bool,
 }
 
-// What a call gives: 0 or refusal 8, the run after it, what its row came to, and how much of the part is used.
+// What a call gives: the run after it, what its row came to, and how much of the part is used.
 #[derive(Clone, Copy)]
 pub struct Next {
     pub run: Run,
     pub came: Came,
     pub used: usize,
-    pub refusal: u8,
 }
 
-// What a call finds in the line buffer.
+// What a call finds in the line buffer. (Four outcomes, and none an error yet.)
 #[derive(Clone, Copy)]
 enum Found {
-    // A row that is whole: so many bytes of the line.
+    // A row that is whole: so many bytes of the line. (A length and no slice, since the line is lent on beside it.)
     Whole(usize),
     // A row that is longer than the line.
     TooLong,
@@ -118,34 +125,35 @@ struct Piece {
 }
 
 impl Phase {
+    // The line that is due, or that the reading ended on: the header is line 1, so the row of label 0 is line 2.
+    pub fn line(self) -> u64
+        ensures { result ≡ line_at self }
+    {
+        match self {
+            Phase::Header => 1,
+            Phase::Rows(Some(label)) => u64::from(label) + 2,
+            Phase::Rows(None) => 4294967298,
+            Phase::Ended { line, .. } => line,
+        }
+    }
+
     // Whether a refusal has ended the reading.
     pub fn has_ended(self) -> bool
         ensures { result ≡ has_ended self }
     {
-        match self {
-            Phase::Header => false,
-            Phase::Rows(_) => false,
-            Phase::Ended {
-                line: _,
-                refusal: _,
-            } => true,
-        }
+        matches!(self, Phase::Ended { .. })
     }
 
     // Whether row 0 has been read: the line that is due, or that the reading ended on, is past its line.
     pub fn has_started(self) -> bool
         ensures { result ≡ has_started self }
     {
-        match self {
-            Phase::Header => false,
-            Phase::Rows(due) => 2 < line_of(due),
-            Phase::Ended { line, refusal: _ } => 2 < line,
-        }
+        2 < self.line()
     }
 }
 
 impl Reading {
-    // Before the first row, with the controller to go on with.
+    // Before the first row, with the controller to go on with. (No impl of From: it would be called by the same words. So in `Run`.)
     pub fn from(state: State) -> Self
         ensures { result ≡ read_from state }
     {
@@ -156,6 +164,7 @@ impl Reading {
     }
 
     // Before the first row of a run that starts from a fresh controller.
+    #[tactic(auto, unfolding(crate::specs::Rows::nothing_read))]
     pub fn new() -> Self
         ensures { result ≡ nothing_read }
     {
@@ -163,68 +172,122 @@ impl Reading {
     }
 
     // One row, without its line break.
+    #[tactic(auto, unfolding(crate::specs::Rows::row_of))]
     pub fn row(self, row: &[u8]) -> Heard
         ensures { result ≡ row_of self row.now }
     {
-        let phase = self.phase;
-        let state = self.state;
-        match phase {
-            Phase::Header => header_row(state, row),
-            Phase::Rows(due) => trace_row(due, state, row),
-            Phase::Ended {
-                line: _,
-                refusal: _,
-            } => Heard {
-                reading: self,
-                came: Came::Nothing,
-            },
+        match self.phase {
+            Phase::Header => self.header_row(row),
+            Phase::Rows(due) => self.trace_row(due, row),
+            Phase::Ended { .. } => self.untold(),
         }
     }
 
     // A row of more than 512 bytes, whichever they are.
+    #[tactic(auto, unfolding(crate::specs::Rows::over_of))]
     pub fn over(self) -> Heard
         ensures { result ≡ over_of self }
     {
-        let phase = self.phase;
-        let state = self.state;
-        match phase {
-            Phase::Header => ends_at(1, 6, state),
-            Phase::Rows(due) => ends_at(line_of(due), 6, state),
-            Phase::Ended {
-                line: _,
-                refusal: _,
-            } => Heard {
-                reading: self,
-                came: Came::Nothing,
-            },
+        if self.phase.has_ended() {
+            return self.untold();
         }
+        self.ends_at(self.phase.line(), Refusal::RowLength)
     }
 
     // The end of the input.
+    #[tactic(auto, unfolding(crate::specs::Rows::end_of))]
     pub fn end(self) -> Heard
         ensures { result ≡ end_of self }
     {
-        let phase = self.phase;
-        let state = self.state;
-        match phase {
-            Phase::Header => ends_at(1, 5, state),
-            Phase::Rows(_) => Heard {
-                reading: self,
-                came: Came::Nothing,
+        match self.phase {
+            Phase::Header => self.ends_at(1, Refusal::Form),
+            _ => self.untold(),
+        }
+    }
+
+    // There is nothing to tell.
+    fn untold(self) -> Heard
+        ensures { result ≡ untold self }
+    {
+        Heard {
+            reading: self,
+            came: Came::Nothing,
+        }
+    }
+
+    // A refusal ends the reading.
+    #[tactic(auto, unfolding(crate::specs::Rows::ends_at))]
+    fn ends_at(self, line: u64, refusal: Refusal) -> Heard
+        ensures { result ≡ ends_at line (number_of refusal) self.state }
+    {
+        let refusal = refusal.number();
+        Heard {
+            reading: Reading {
+                phase: Phase::Ended { line, refusal },
+                state: self.state,
             },
-            Phase::Ended {
-                line: _,
-                refusal: _,
-            } => Heard {
-                reading: self,
-                came: Came::Nothing,
+            came: Came::Refused { line, refusal },
+        }
+    }
+
+    // The first row must be the header.
+    #[tactic(auto, unfolding(crate::specs::Rows::header_row))]
+    fn header_row(self, row: &[u8]) -> Heard
+        ensures { result ≡ header_row self.state row.now }
+    {
+        if LINE < row.len() {
+            return self.ends_at(1, Refusal::RowLength);
+        }
+        if !trace::is_header(row) {
+            return self.ends_at(1, Refusal::Form);
+        }
+        Heard {
+            reading: Reading {
+                phase: Phase::Rows(Some(0)),
+                state: self.state,
             },
+            came: Came::Nothing,
+        }
+    }
+
+    // A row after the header, which must bear the label that is due.
+    #[tactic(auto, unfolding(crate::specs::Rows::trace_row, crate::specs::Rows::shown_row, crate::specs::Rows::no_sample))]
+    fn trace_row(self, due: Option<u32>, row: &[u8]) -> Heard
+        ensures { result ≡ trace_row due self.state row.now }
+    {
+        let mut sample = [0u8; 54];
+        match trace::read_row(row, due, &mut sample) {
+            Ok(taken) => self.shown_row(
+                due,
+                taken.label,
+                answer_to(self.state, taken.label, taken.stamp, &sample),
+            ),
+            Err(refusal) => self.ends_at(Phase::Rows(due).line(), refusal),
+        }
+    }
+
+    // A row that was read. Its label is used up by a refusal too.
+    #[tactic(auto, unfolding(crate::specs::Rows::shown_row))]
+    fn shown_row(self, due: Option<u32>, label: u32, answer: Result<State, Refusal>) -> Heard
+        ensures { result ≡ shown_row due label (answer_says self.state answer) }
+    {
+        let (code, state) = match answer {
+            Ok(after) => (0, after),
+            Err(refusal) => (refusal.number(), self.state),
+        };
+        Heard {
+            reading: Reading {
+                phase: Phase::Rows(next_due(due)),
+                state,
+            },
+            came: Came::Answered { label, code },
         }
     }
 }
 
 impl Run {
     // A run at its start, with the controller to go on with.
+    #[tactic(auto, unfolding(crate::specs::Parts::run_from))]
     pub fn from(state: State) -> Self
         ensures { result ≡ run_from state }
     {
@@ -236,6 +299,7 @@ impl Run {
     }
 
     // A run at its start, from a fresh controller.
+    #[tactic(auto, unfolding(crate::specs::Parts::new_run))]
     pub fn new() -> Self
         ensures { result ≡ new_run }
     {
@@ -246,165 +310,86 @@ impl Run {
     pub fn phase(self) -> Phase
         ensures { result ≡ self.reading.phase }
     {
-        let reading = self.reading;
-        reading.phase
+        self.reading.phase
     }
 
     // The controller as the last row left it.
     pub fn state(self) -> State
         ensures { result ≡ self.reading.state }
     {
-        let reading = self.reading;
-        reading.state
+        self.reading.state
     }
 
     // Takes in a part of the input up to the end of its first row, or all of it, through a line buffer of 512 bytes. The rest of
     // the part is for the next call.
-    pub fn take(self, part: &[u8], line: &mut [u8]) -> Next
-        ensures { (result, line.new) ≡ take_of self part.now line.old }
+    #[tactic(auto, using(crate::proofs::Lending::piece_fits), unfolding(crate::specs::Parts::take_of, crate::specs::Parts::refused))]
+    pub fn take(self, part: &[u8], line: &mut [u8]) -> Result<Next, Refusal>
+        ensures { (next_says self result, line.new) ≡ take_of self part.now line.old }
     {
         if line.len() != LINE {
-            return self.refused();
+            return Err(Refusal::Room);
         }
         let piece = piece_of(lines::cut(part, 0, line, self.len, self.cr), part.len());
-        self.goes_on(piece, line)
+        Ok(self.goes_on(piece, line))
     }
 
     // The end of the input: what is still in the line buffer is the last row.
-    pub fn finish(self, line: &mut [u8]) -> Next
-        ensures { (result, line.new) ≡ finish_of self line.old }
+    #[tactic(auto, using(crate::proofs::Lending::last_fits), unfolding(crate::specs::Parts::finish_of, crate::specs::Parts::refused))]
+    pub fn finish(self, line: &mut [u8]) -> Result<Next, Refusal>
+        ensures { (next_says self result, line.new) ≡ finish_of self line.old }
     {
         if line.len() != LINE {
-            return self.refused();
+            return Err(Refusal::Room);
         }
         let piece = last_piece(lines::last(line, self.len, self.cr));
-        self.goes_on(piece, line)
-    }
-
-    // A line buffer that is not 512 bytes.
-    fn refused(self) -> Next
-        ensures { result ≡ refused self }
-    {
-        Next {
-            run: self,
-            came: Came::Nothing,
-            used: 0,
-            refusal: 8,
-        }
+        Ok(self.goes_on(piece, line))
     }
 
     // The run behind a piece, and what the piece came to.
     fn goes_on(self, piece: Piece, line: &[u8]) -> Next
         requires { Fits piece.found (length line.now) }
-        ensures { result ≡ next_by self piece line.now }
+        ensures { next_says self (Ok result) ≡ next_by self piece line.now }
     {
-        let before = self.reading;
-        let found = piece.found;
-        let heard = hears(before, found, line);
-        let reading = heard.reading;
-        let came = heard.came;
+        let heard = hears(self.reading, piece.found, line);
         Next {
             run: Run {
-                reading,
+                reading: heard.reading,
                 len: piece.len,
                 cr: piece.cr,
             },
-            came,
+            came: heard.came,
             used: piece.used,
-            refusal: 0,
         }
     }
 }
 
 // The label that is due after a row.
-fn next_due(due: Due) -> Due
+fn next_due(due: Option<u32>) -> Option<u32>
     ensures { result ≡ next_due due }
 {
-    let Due::Label(n) = due else {
-        return Due::Nothing;
-    };
-    if n < 4294967295 {
-        return Due::Label(n + 1);
-    }
-    Due::Nothing
-}
-
-// The line number of the row that is due.
-fn line_of(due: Due) -> u64
-    ensures { result ≡ line_of due }
-{
-    match due {
-        Due::Label(n) => (n as u64) + 2,
-        Due::Nothing => 4294967298,
-    }
-}
-
-// A refusal ends the reading.
-fn ends_at(line: u64, refusal: u8, state: State) -> Heard
-    ensures { result ≡ ends_at line refusal state }
-{
-    Heard {
-        reading: Reading {
-            phase: Phase::Ended { line, refusal },
-            state,
-        },
-        came: Came::Refused { line, refusal },
-    }
-}
-
-// The first row must be the header.
-fn header_row(state: State, row: &[u8]) -> Heard
-    ensures { result ≡ header_row state row.now }
-{
-    if LINE < row.len() {
-        return ends_at(1, 6, state);
-    }
-    if trace::is_header(row) {
-        return Heard {
-            reading: Reading {
-                phase: Phase::Rows(Due::Label(0)),
-                state,
-            },
-            came: Came::Nothing,
-        };
-    }
-    ends_at(1, 5, state)
+    due?.checked_add(1)
 }
 
 // Row 0 starts the controller; each other row is a step of it.
-fn answer_to(state: State, label: u32, stamp: u32, sample: &[u8]) -> Answer
-    ensures { result ≡ answer_to state label stamp sample.now }
+#[tactic(auto, unfolding(crate::specs::Rows::answer_to))]
+fn answer_to(state: State, label: u32, stamp: u32, sample: &[u8]) -> Result<State, Refusal>
+    ensures { answer_says state result ≡ answer_to state label stamp sample.now }
 {
     if label == 0 {
-        return Answer {
-            refusal: 0,
-            state: state.started_at(stamp),
-        };
+        return Ok(state.started_at(stamp));
     }
     state.step(stamp, sample)
 }
 
-// A row after the header.
-fn trace_row(due: Due, state: State, row: &[u8]) -> Heard
-    ensures { result ≡ trace_row due state row.now }
+// A piece behind which no row is under way.
+fn up_to(found: Found, used: usize) -> Piece
+    ensures { result ≡ up_to found used }
 {
-    let mut sample = [0u8; 54];
-    match trace::read_row(row, due, &mut sample) {
-        Row::Taken { label, stamp } => {
-            let answer = answer_to(state, label, stamp, &sample);
-            let after = answer.state;
-            Heard {
-                reading: Reading {
-                    phase: Phase::Rows(next_due(due)),
-                    state: after,
-                },
-                came: Came::Answered {
-                    label,
-                    code: answer.refusal,
-                },
-            }
-        }
-        Row::Refused(refusal) => ends_at(line_of(due), refusal, state),
+    Piece {
+        found,
+        len: 0,
+        cr: false,
+        used,
     }
 }
 
@@ -413,36 +398,14 @@ fn piece_of(taken: Taken, size: usize) -> Piece
     ensures { result ≡ piece_of taken size }
 {
     match taken {
-        Taken::Row { used, len } => Piece {
-            found: Found::Whole(len),
-            len: 0,
-            cr: false,
-            used,
-        },
+        Taken::Row { used, len } => up_to(Found::Whole(len), used),
         Taken::More { len, cr } => Piece {
             found: Found::Unfinished,
             len,
             cr,
             used: size,
         },
-        Taken::Over => Piece {
-            found: Found::TooLong,
-            len: 0,
-            cr: false,
-            used: size,
-        },
-    }
-}
-
-// Behind the last row, or the end of the input, no row is under way.
-fn at_the_end(found: Found) -> Piece
-    ensures { result ≡ record { found = found; len = 0; cr = false; used = 0 } }
-{
-    Piece {
-        found,
-        len: 0,
-        cr: false,
-        used: 0,
+        Taken::Over => up_to(Found::TooLong, size),
     }
 }
 
@@ -451,9 +414,9 @@ fn last_piece(last: Final) -> Piece
     ensures { result ≡ last_piece last }
 {
     match last {
-        Final::Nothing => at_the_end(Found::End),
-        Final::Last { len } => at_the_end(Found::Whole(len)),
-        Final::Wider => at_the_end(Found::TooLong),
+        Final::Nothing => up_to(Found::End, 0),
+        Final::Last { len } => up_to(Found::Whole(len), 0),
+        Final::Wider => up_to(Found::TooLong, 0),
     }
 }
 
@@ -465,10 +428,7 @@ fn hears(reading: Reading, found: Found, line: &[u8]) -> Heard
     match found {
         Found::Whole(len) => reading.row(&line[..len]),
         Found::TooLong => reading.over(),
-        Found::Unfinished => Heard {
-            reading,
-            came: Came::Nothing,
-        },
+        Found::Unfinished => reading.untold(),
         Found::End => reading.end(),
     }
 }

@@ -7,37 +7,21 @@ use Rattle.controller.specs.declared.State.{State}
 use Rattle.reading.specs.Parts.{line_bytes}
 use Rattle.reading.specs.Runs.{input_of}
 use Rattle.loops.specs.declared.Progress.{Progress}
-use Rattle.loops.specs.Progresses.{read_part, goes_on, left_in}
+use Rattle.loops.specs.Progresses.{read_part, not_read, goes_on, left_in}
+use Rattle.std.specs.Prelude.{Some}
+use Rattle.common.proofs.Pairs.{both}
 use Rattle.loops.proofs.Laws.{stops_at_the_end_or_a_refusal}
-use Rattle.running.specs.declared.Task.{Task}
-use Rattle.running.specs.declared.Work.{Work}
 use Rattle.running.specs.declared.At.{At}
 use Rattle.running.specs.declared.Ran.{Ran}
-use Rattle.running.specs.Works.{
-  work_of,
-  header_by,
-  is_ended,
-  room,
-  Answer,
-  wrote,
-  fill_of,
-  last_of,
-  Come,
-  behind,
-  all_of,
-  Right,
-  RightLast,
-  whole_of,
-}
+use Rattle.running.specs.Rules.{room, Answer, wrote, Come, behind, Rule, Right, RightLast, IsRight, whole_of}
 use Rattle.running.specs.Loops.{left_of, AfterRead, AfterFill, Step, AfterLast, Through}
-use Rattle.running.specs.Loops.AfterRead.{answers, fails}
-use Rattle.running.proofs.Law.{fill_right, last_right, ended_for_good, stays_ended}
+use Rattle.running.specs.Loops.AfterRead.{answers, again, fails}
 
 -- So far: parts that were read, the text that was put out, and what is left of the last part.
-pub record Along (task : Task) (before : ℕ) (comes : List ℕ → Come) (work : Work) (line left : List ℕ) (put : ℕ) : Type 0 where
+pub record Along {A : Type 0} (rule : Rule A) (before : ℕ) (comes : List ℕ → Come A) (work : A) (line left : List ℕ) (put : ℕ) : Type 0 where
   pub parts : List (List ℕ)
   pub text : List ℕ
-  pub same : (rest : List ℕ) → comes (input_of parts ++ rest) ≡ behind text (all_of task work line (left ++ rest))
+  pub same : (rest : List ℕ) → comes (input_of parts ++ rest) ≡ behind text (rule.all_of work line (left ++ rest))
   pub counted : put ≡ (before + length text) % 2 ^ 64
 
 -- One part more.
@@ -62,13 +46,13 @@ is_true true t = refl
 is_true false t = absurd t
 
 -- Where the loop begins nothing is left of a part.
-pub begins : (task : Task) (work : Work) (line : List ℕ) (put : ℕ) → put < 2 ^ 64 → Along task put (all_of task work line) work line [] put
-begins task work line put fits = record { parts = []; text = []; same = λ rest. refl; counted = omega arith }
+pub begins : {A : Type 0} (rule : Rule A) (work : A) (line : List ℕ) (put : ℕ) → put < 2 ^ 64 → Along rule put (rule.all_of work line) work line [] put
+begins rule work line put fits = record { parts = []; text = []; same = λ rest. refl; counted = omega arith }
 
-module _ (task : Task) (before : ℕ) (comes : List ℕ → Come) where
-  module _ (work : Work) (line : List ℕ) (put : ℕ) where
+module _ {A : Type 0} (rule : Rule A) (laws : IsRight rule) (before : ℕ) (comes : List ℕ → Come A) where
+  module _ (work : A) (line : List ℕ) (put : ℕ) where
     -- A part is read where nothing is left of the one before.
-    reads : Along task before comes work line [] put → (part : List ℕ) → Along task before comes work line part put
+    reads : Along rule before comes work line [] put → (part : List ℕ) → Along rule before comes work line part put
     reads a part =
         record {
           parts = a.parts ++ part ∷ [];
@@ -78,9 +62,9 @@ module _ (task : Task) (before : ℕ) (comes : List ℕ → Come) where
         }
 
     -- Some of it is taken in, and what that gives is put out.
-    takes_in : (left : List ℕ) → Along task before comes work line left put → (answer : Answer) → Right task work left line answer
+    takes_in : (left : List ℕ) → Along rule before comes work line left put → (answer : Answer A) → Right rule work left line answer
         → answer.0.written ≤ length answer.2
-        → Along task before comes answer.0.work answer.1 (drop answer.0.used left) ((put + answer.0.written) % 2 ^ 64)
+        → Along rule before comes answer.0.work answer.1 (drop answer.0.used left) ((put + answer.0.written) % 2 ^ 64)
     takes_in left a answer right within =
         let long : length (wrote answer) ≡ answer.0.written = simp length-take (omega arith) in
         let both = length-append a.text (wrote answer) in
@@ -90,16 +74,16 @@ module _ (task : Task) (before : ℕ) (comes : List ℕ → Come) where
           same = λ rest.
               a.same rest
               ∙ ap (behind a.text) (right.same rest)
-              ∙ ap (λ (l : List ℕ). (l, (all_of task answer.0.work answer.1 (drop answer.0.used left ++ rest)).1))
-              (sym (append_assoc a.text (wrote answer) (all_of task answer.0.work answer.1 (drop answer.0.used left ++ rest)).0));
+              ∙ ap (λ (l : List ℕ). (l, (rule.all_of answer.0.work answer.1 (drop answer.0.used left ++ rest)).1))
+              (sym (append_assoc a.text (wrote answer) (rule.all_of answer.0.work answer.1 (drop answer.0.used left ++ rest)).0));
           counted = omega (arith, a.counted, long, both);
         }
 
     -- At the end, or where a refusal has ended the reading, only the last row is to come.
-    ends : (left : List ℕ) → Along task before comes work line left put → (all_of task work line (left ++ []) ≡ all_of task work line [])
-        → (ran : Ran) (answer : Answer) → RightLast task work line answer → answer.0.written ≤ length answer.2
-        → ran.work ≡ answer.0.work → ran.put ≡ (put + answer.0.written) % 2 ^ 64 → T (ran.end || is_ended task ran.work)
-        → Through task before comes ran
+    ends : (left : List ℕ) → Along rule before comes work line left put → (rule.all_of work line (left ++ []) ≡ rule.all_of work line [])
+        → (ran : Ran A) (answer : Answer A) → RightLast rule work line answer → answer.0.written ≤ length answer.2
+        → ran.work ≡ answer.0.work → ran.put ≡ (put + answer.0.written) % 2 ^ 64 → T (ran.end || rule.is_ended ran.work)
+        → Through rule before comes ran
     ends left a nothing ran answer right within w p over =
         let long : length (wrote answer) ≡ answer.0.written = simp length-take (omega arith) in
         let both = length-append a.text (wrote answer) in
@@ -110,7 +94,7 @@ module _ (task : Task) (before : ℕ) (comes : List ℕ → Come) where
               ap comes (sym (append-nil (input_of a.parts)))
               ∙ a.same []
               ∙ ap (behind a.text) (nothing ∙ right.all)
-              ∙ ap (λ (x : Work). (a.text ++ wrote answer, x)) (sym w);
+              ∙ ap (λ (x : A). (a.text ++ wrote answer, x)) (sym w);
           counted = omega (arith, a.counted, p, long, both);
           over = over;
         }
@@ -119,68 +103,70 @@ module _ (task : Task) (before : ℕ) (comes : List ℕ → Come) where
 
   -- What a step keeps: the line buffer's length, the part inside the input buffer, what was done so far, and that the end of the input leaves
   -- nothing.
-  pub record Kept (input line : List ℕ) (after : At) : Type 0 where
+  pub record Kept (input line : List ℕ) (after : At A) : Type 0 where
     pub full : length line ≡ line_bytes
     pub ordered : after.progress.left ≤ after.progress.to
     pub inside : after.progress.to ≤ length input
-    pub so_far : Along task before comes after.work line (left_of after input) after.progress.put
+    pub so_far : Along rule before comes after.work line (left_of after input) after.progress.put
     pub over : T after.progress.end → left_of after input ≡ []
 
   -- By what a read came to.
-  module _ (work : Work) (line input : List ℕ) (full : length line ≡ line_bytes) (put : ℕ) (a : Along task before comes work line [] put) where
-    read_keeps : (place after : Progress) → place.put ≡ put → AfterRead place after input → Kept input line (record { work = work; progress = after })
+  module _ (work : A) (line input : List ℕ) (full : length line ≡ line_bytes) (put : ℕ) (a : Along rule before comes work line [] put) where
+    read_keeps : (place after : Progress) → place.put ≡ put → AfterRead place (Some after) input → Kept input line (record { work = work; progress = after })
     read_keeps place after e (answers n fits r) =
-        rw r (record {
+        let is : after ≡ read_part place n = cc in
+        rw is (record {
           full = full;
           ordered = omega arith;
           inside = fits;
           so_far = rw e (reads work line put a (left_in (read_part place n) input));
           over = λ t. ap (λ (k : ℕ). take k (drop (n - n) input)) (eqb→eq n 0 t);
         })
-    read_keeps place after e (fails again r) =
-        rw r (record {
+    read_keeps place after e (again r) =
+        let is : after ≡ not_read place = cc in
+        rw is (record {
           full = full;
           ordered = omega arith;
           inside = omega arith;
           so_far = rw e (reads work line put a []);
           over = λ t. refl;
         })
+    read_keeps place after e (fails r) = absurd (cc)
 
-  module _ (place after : At) (input input' line line' out out' : List ℕ) (full : length line ≡ line_bytes) (long : room ≤ length out)
+  module _ (place after : At A) (input input' line line' out out' : List ℕ) (full : length line ≡ line_bytes) (long : room ≤ length out)
       (ordered : place.progress.left ≤ place.progress.to) (inside : place.progress.to ≤ length input) (going : place.progress.end ≡ false)
-      (a : Along task before comes place.work line (left_of place input) place.progress.put) where
-    by_read : place.progress.left ≡ 0 → after.work ≡ place.work → AfterRead place.progress after.progress input' → line' ≡ line
+      (a : Along rule before comes place.work line (left_of place input) place.progress.put) where
+    by_read : place.progress.left ≡ 0 → after.work ≡ place.work → AfterRead place.progress (Some after.progress) input' → line' ≡ line
         → Kept input' line' after
     by_read h w r e =
         let nothing : left_of place input ≡ [] = ap (λ (k : ℕ). take k (drop (place.progress.to - place.progress.left) input)) h in
-        let here = subst (λ (l : List ℕ). Along task before comes place.work line l place.progress.put) nothing a in
-        rw e (subst (λ (x : Work). Kept input' line (record { work = x; progress = after.progress })) (sym w)
+        let here = subst (λ (l : List ℕ). Along rule before comes place.work line l place.progress.put) nothing a in
+        rw e (subst (λ (x : A). Kept input' line (record { work = x; progress = after.progress })) (sym w)
         (read_keeps place.work line input' full place.progress.put here place.progress after.progress refl r))
 
-    by_fill : input' ≡ input → AfterFill task place after input' line line' out out' → Kept input' line' after
+    by_fill : input' ≡ input → AfterFill rule place (Some after) input' line line' out out' → Kept input' line' after
     by_fill e f =
         let left = left_of place input' in
-        let answer = fill_of task place.work left line out in
+        let answer = rule.fill_of place.work left line out in
         let p = place.progress in
-        let here = subst (λ (l : List ℕ). Along task before comes place.work line (left_of place l) p.put) (sym e) a in
-        let last : out' ≡ answer.2 = ap (λ (x : At × List ℕ × List ℕ). x.2) f.taken in
-        let right = fill_right place.work line out full long task left in
-        let next = takes_in place.work line p.put left here answer right (rw (← last) f.within) in
+        let here = subst (λ (l : List ℕ). Along rule before comes place.work line (left_of place l) p.put) (sym e) a in
+        let lent : (line' ≡ answer.1) × (out' ≡ answer.2) = both f.lent in
+        let right = laws.fill_right place.work left line out full long in
+        let next = takes_in place.work line p.put left here answer right (rw (← lent.1) f.within) in
         let at : p.to - p.left + answer.0.used ≡ p.to - (p.left - answer.0.used) = omega (arith, f.inside) in
         let rest : drop answer.0.used left ≡ take (p.left - answer.0.used) (drop (p.to - (p.left - answer.0.used)) input') =
         drop_take answer.0.used p.left (drop (p.to - p.left) input')
         ∙ ap (λ (l : List ℕ). take (p.left - answer.0.used) l) (drop-drop answer.0.used (p.to - p.left) input')
         ∙ ap (λ (k : ℕ). take (p.left - answer.0.used) (drop k input')) at in
-        subst (λ (x : At × List ℕ × List ℕ). Kept input' x.1 x.0) (sym f.taken)
-        (record {
+        rw (f.taken, lent.0) (record {
           full = right.full;
           ordered = omega arith;
           inside = rw e inside;
-          so_far = subst (λ (l : List ℕ). Along task before comes answer.0.work answer.1 l ((p.put + answer.0.written) % 2 ^ 64)) rest next;
+          so_far = subst (λ (l : List ℕ). Along rule before comes answer.0.work answer.1 l ((p.put + answer.0.written) % 2 ^ 64)) rest next;
           over = λ t. absurd (rw going at t);
         })
 
-    pub stepped : Step task place after input input' line line' out out' → Kept input' line' after
+    pub stepped : Step rule place (Some after) input input' line line' out out' → Kept input' line' after
     stepped s = by_test (ltb 0 place.progress.left) refl where
       by_test : (t : Bool) → ltb 0 place.progress.left ≡ t → Kept input' line' after
       by_test true e = let in_part = s.takes_in (ltb-true _ _ e) in by_fill in_part.0 in_part.1
@@ -191,42 +177,42 @@ module _ (task : Task) (before : ℕ) (comes : List ℕ → Come) where
 
   -- ---- The end
 
-  module _ (place : At) (ran : Ran) (input line line' out out' : List ℕ) (long : room ≤ length out) (kept : Kept input line place)
-      (stop : goes_on place.progress (is_ended task place.work) ≡ false) (f : AfterLast task place ran line line' out out') where
-    pub finished : Through task before comes ran
+  module _ (place : At A) (ran : Ran A) (input line line' out out' : List ℕ) (long : room ≤ length out) (kept : Kept input line place)
+      (stop : goes_on place.progress (rule.is_ended place.work) ≡ false) (f : AfterLast rule place ran line line' out out') where
+    pub finished : Through rule before comes ran
     finished =
         by_end place.progress.end refl
-        (stops_at_the_end_or_a_refusal place.progress (is_ended task place.work) f.was_well stop) where
-          done : all_of task place.work line (left_of place input ++ []) ≡ all_of task place.work line [] → T (ran.end || is_ended task ran.work)
-              → Through task before comes ran
+        (stops_at_the_end_or_a_refusal place.progress (rule.is_ended place.work) stop) where
+          done : rule.all_of place.work line (left_of place input ++ []) ≡ rule.all_of place.work line [] → T (ran.end || rule.is_ended ran.work)
+              → Through rule before comes ran
           done nothing o =
-              let last : out' ≡ (last_of task place.work line out).2 = ap (λ (x : Ran × List ℕ × List ℕ). x.2) f.taken in
-              ends place.work line place.progress.put (left_of place input) kept.so_far nothing ran (last_of task place.work line out)
-              (last_right place.work line out kept.full long task) (rw (← last) f.within)
-              (ap (λ (x : Ran × List ℕ × List ℕ). x.0.work) f.taken) (ap (λ (x : Ran × List ℕ × List ℕ). x.0.put) f.taken) o
+              let last : out' ≡ (rule.last_of place.work line out).2 = ap (λ (x : Ran A × List ℕ × List ℕ). x.2) f.taken in
+              ends place.work line place.progress.put (left_of place input) kept.so_far nothing ran (rule.last_of place.work line out)
+              (laws.last_right place.work line out kept.full long) (rw (← last) f.within)
+              (ap (λ (x : Ran A × List ℕ × List ℕ). x.0.work) f.taken) (ap (λ (x : Ran A × List ℕ × List ℕ). x.0.put) f.taken) o
 
-          by_end : (end : Bool) → place.progress.end ≡ end → T (end || is_ended task place.work) → Through task before comes ran
+          by_end : (end : Bool) → place.progress.end ≡ end → T (end || rule.is_ended place.work) → Through rule before comes ran
           by_end true e t =
               let none = kept.over (rw e Prim.tt) in
-              let reached : ran.end ≡ true = ap (λ (x : Ran × List ℕ × List ℕ). x.0.end) f.taken ∙ e in
-              done (ap (λ (l : List ℕ). all_of task place.work line (l ++ [])) none) (rw reached Prim.tt)
+              let reached : ran.end ≡ true = ap (λ (x : Ran A × List ℕ × List ℕ). x.0.end) f.taken ∙ e in
+              done (ap (λ (l : List ℕ). rule.all_of place.work line (l ++ [])) none) (rw reached Prim.tt)
           by_end false e t =
-              let h = is_true (is_ended task place.work) t in
-              let reached : ran.end ≡ false = ap (λ (x : Ran × List ℕ × List ℕ). x.0.end) f.taken ∙ e in
-              let w : ran.work ≡ (last_of task place.work line out).0.work = ap (λ (x : Ran × List ℕ × List ℕ). x.0.work) f.taken in
-              done (ended_for_good task place.work line (left_of place input ++ []) h ∙ sym (ended_for_good task place.work line [] h))
-              (rw (reached, w, stays_ended task place.work line out kept.full long h) Prim.tt)
+              let h = is_true (rule.is_ended place.work) t in
+              let reached : ran.end ≡ false = ap (λ (x : Ran A × List ℕ × List ℕ). x.0.end) f.taken ∙ e in
+              let w : ran.work ≡ (rule.last_of place.work line out).0.work = ap (λ (x : Ran A × List ℕ × List ℕ). x.0.work) f.taken in
+              done (laws.ended_for_good place.work line (left_of place input ++ []) h ∙ sym (laws.ended_for_good place.work line [] h))
+              (rw (reached, w, laws.stays_ended place.work line out kept.full long h) Prim.tt)
 
 -- The header stands in front of the whole.
-pub through_whole : (task : Task) (state : State) (start : Work) (n : ℕ) (ran : Ran) → start ≡ work_of state → n ≡ length (header_by task)
-    → Through task n (all_of task start (replicate line_bytes 0)) ran → Through task 0 (whole_of task state) ran
+pub through_whole : {A : Type 0} (rule : Rule A) (state : State) (start : A) (n : ℕ) (ran : Ran A) → start ≡ rule.start state → n ≡ length rule.header
+    → Through rule n (rule.all_of start (replicate line_bytes 0)) ran → Through rule 0 (whole_of rule state) ran
 unfolding whole_of
-through_whole task state start n ran w e t =
-    let both = length-append (header_by task) t.text in
+through_whole rule state start n ran w e t =
+    let both = length-append rule.header t.text in
     record {
       parts = t.parts;
-      text = header_by task ++ t.text;
-      whole = ap (behind (header_by task)) (ap (λ (x : Work). all_of task x (replicate line_bytes 0) (input_of t.parts)) (sym w) ∙ t.whole);
+      text = rule.header ++ t.text;
+      whole = ap (behind rule.header) (ap (λ (x : _). rule.all_of x (replicate line_bytes 0) (input_of t.parts)) (sym w) ∙ t.whole);
       counted = omega (arith, t.counted, both);
       over = t.over;
     }

@@ -1,4 +1,4 @@
+pub mod Headers
 pub mod Along
-pub mod Calls
 pub mod Law
 pub mod Once

@@ -1,2 +1,5 @@
+pub mod Answers
+pub mod Rules
 pub mod Works
+pub mod Laws
 pub mod Loops

@@ -4,39 +4,17 @@
 use Prim.Native.Nat.{ℕ, zero, suc, ◌%◌, ◌≤◌, ◌<◌}
 use native.Mathlib.Nat.{mod-eq_of_lt}
 use native.Mathlib.Omega.{arith}
-use mathlib.Core.Bool.{Bool, true, false}
 use mathlib.Core.List.{List, [], ◌∷◌}
 use mathlib.Core.Path.{◌≡◌, refl}
-use lib.Dec.{lit≤, lit<}
+use lib.Dec.{lit<}
 use lib.ListN.{length, get_or}
-use mir.Val.{bool_byte}
-use Rattle.common.specs.Bits.{bit, is_one}
+use Rattle.common.proofs.Bits.{one_of_bit, bit_of_one, bit_to_1}
 use Rattle.voter.specs.Voting.{value_of}
 use Rattle.voter.specs.Numbers.{number_of}
 use Rattle.voter.specs.Counts.{CountInRange}
 use Rattle.sensors.specs.Items.{items_per_sensor, sensor_items, sensor_tops, SensorInRange, sensor_in}
 use Rattle.voter.specs.declared.Voter.{Voter}
 use Rattle.voter.proofs.Numbering.{at_number, number_at, number_to_4}
-
--- ---- A truth value as a number
-
-pub one_of_bit : (b : Bool) → is_one (bit b) ≡ b
-one_of_bit true = refl
-one_of_bit false = refl
-
-pub bit_of_one : (n : ℕ) → n ≤ 1 → bit (is_one n) ≡ n
-bit_of_one zero h = refl
-bit_of_one (suc zero) h = refl
-bit_of_one (suc (suc n)) h = absurd (omega arith)
-
-pub bit_to_1 : (b : Bool) → bit b ≤ 1
-bit_to_1 true = lit≤ tt
-bit_to_1 false = lit≤ tt
-
--- As the code casts it.
-pub byte_is_bit : (b : Bool) → bool_byte b ≡ bit b
-byte_is_bit true = refl
-byte_is_bit false = refl
 
 -- A number that is a byte, as one.
 in_a_byte : (n : ℕ) → n < 256 → n % 256 ≡ n

@@ -16,6 +16,7 @@ pub const ITEMS: usize = 4;
 pub const RULES: usize = 3;
 
 // The items of a sensor: voter, held value, odd channel and count.
+#[tactic(auto, using(common::proofs::Bits::byte_is_bit), unfolding(crate::specs::Items::sensor_items, voter::specs::Voting::value_of))]
 pub fn items(v: Voter) -> [u32; ITEMS]
     ensures { result ≡ sensor_items v }
 {
@@ -30,6 +31,7 @@ pub fn tops() -> [u32; ITEMS]
 }
 
 // The sensor that items are of. Of odd channel and count the last byte is taken.
+#[tactic(auto, unfolding(crate::specs::Items::sensor_in))]
 pub fn from_items(items: [u32; ITEMS]) -> Voter
     ensures { result ≡ sensor_in items }
 {
@@ -42,17 +44,17 @@ pub fn from_items(items: [u32; ITEMS]) -> Voter
 }
 
 // The rules of odd channel and count, each as a test: with all channels valid, with one struck, and with the sensor invalid.
+#[tactic(auto, unfolding(voter::specs::Counts::odd_with_count, voter::specs::Counts::no_odd_of_two, voter::specs::Counts::none_of_invalid, voter::specs::Counts::count_rules))]
 pub fn count_rules(v: Voter) -> [bool; RULES]
     ensures { result ≡ count_rules v }
 {
-    let channels = v.channels;
-    let valid = valid_channels(channels);
+    let valid = valid_channels(v.channels);
     let no_odd = v.odd == 0;
     let no_count = v.count == 0;
     [
-        !(valid == 3) | (no_odd == no_count),
-        !(valid == 2) | no_odd,
-        !v.invalid() | (no_odd & no_count),
+        valid != 3 || no_odd == no_count,
+        valid != 2 || no_odd,
+        !v.invalid() || no_odd && no_count,
     ]
 }
 
@@ -64,14 +66,13 @@ pub fn count_runs(v: Voter) -> bool
 }
 
 // How many channels are valid.
+#[tactic(auto, unfolding(voter::specs::Voting::valid_channels))]
 fn valid_channels(channels: Channels) -> u8
     ensures { result ≡ valid_channels channels }
 {
     match channels {
         Channels::All => 3,
-        Channels::Without1 => 2,
-        Channels::Without2 => 2,
-        Channels::Without3 => 2,
+        Channels::Without1 | Channels::Without2 | Channels::Without3 => 2,
         Channels::Nothing => 0,
     }
 }

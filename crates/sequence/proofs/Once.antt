@@ -4,6 +4,8 @@ use mathlib.Core.Path.{◌∙◌, sym}
 use Rattle.common.specs.OneAnswer.{OneAnswer}
 use Rattle.sequence.proofs.at_aim.Kinds as at_aim_kinds
 use Rattle.sequence.proofs.at_aim.Reads as at_aim_reads
+use Rattle.sequence.proofs.Aim.of_handle.Kinds as aim_of_handle_kinds
+use Rattle.sequence.proofs.Aim.of_handle.Reads as aim_of_handle_reads
 use Rattle.sequence.proofs.Aim.number.Kinds as aim_number_kinds
 use Rattle.sequence.proofs.Aim.number.Reads as aim_number_reads
 use Rattle.sequence.proofs.Doors.number.Kinds as doors_number_kinds
@@ -25,6 +27,9 @@ use Rattle.sequence.proofs.Place.moving_have_open.Reads as place_moving_have_ope
 
 pub at_aim_once : OneAnswer 0 at_aim_kinds.ps at_aim_kinds.r at_aim_reads.Post
 at_aim_once κs a x y s t p q = p ∙ sym q
+
+pub aim_of_handle_once : OneAnswer 0 aim_of_handle_kinds.ps aim_of_handle_kinds.r aim_of_handle_reads.Post
+aim_of_handle_once κs a x y s t p q = p ∙ sym q
 
 pub aim_number_once : OneAnswer 0 aim_number_kinds.ps aim_number_kinds.r aim_number_reads.Post
 aim_number_once κs a x y s t p q = p ∙ sym q

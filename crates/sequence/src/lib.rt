@@ -3,13 +3,13 @@
 #![tactic(auto)]
 
 ghost use Rattle.std.specs.Prelude.{◌≡◌};
-ghost use Rattle.sequence.specs.Moves.{at_aim};
+ghost use Rattle.sequence.specs.Moves.{aim_of, at_aim};
 
 mod numbers;
 mod places;
 
 // Where the doors stand.
-#[derive(Clone, Copy)]
+#[derive(Clone, Copy, PartialEq, Eq)]
 pub enum Doors {
     Closed,
     Opening,
@@ -18,7 +18,7 @@ pub enum Doors {
 }
 
 // Where the gears stand.
-#[derive(Clone, Copy)]
+#[derive(Clone, Copy, PartialEq, Eq)]
 pub enum Gears {
     Retracted,
     Extending,
@@ -27,21 +27,34 @@ pub enum Gears {
 }
 
 // What the handle aims at: up at RETRACTED, down at EXTENDED.
-#[derive(Clone, Copy)]
+#[derive(Clone, Copy, PartialEq, Eq)]
 pub enum Aim {
     ToRetracted,
     ToExtended,
 }
 
+impl Aim {
+    // By the handle, up or down.
+    pub fn of_handle(down: bool) -> Self
+        ensures { result ≡ aim_of down }
+    {
+        if down {
+            Aim::ToExtended
+        } else {
+            Aim::ToRetracted
+        }
+    }
+}
+
 // Doors and gears together.
-#[derive(Clone, Copy)]
+#[derive(Clone, Copy, PartialEq, Eq)]
 pub struct Place {
     pub doors: Doors,
     pub gears: Gears,
 }
 
 // What all three sensors of a kind are seen to say: all doors open, all closed, all gears extended, all retracted.
-#[derive(Clone, Copy)]
+#[derive(Clone, Copy, PartialEq, Eq)]
 pub struct Seen {
     pub opened: bool,
     pub closed: bool,
@@ -50,21 +63,12 @@ pub struct Seen {
 }
 
 // Whether the gears stand where the handle aims.
+#[tactic(auto, unfolding(crate::specs::Moves::at_aim))]
 pub fn at_aim(aim: Aim, gears: Gears) -> bool
     ensures { result ≡ at_aim aim gears }
 {
-    match aim {
-        Aim::ToRetracted => match gears {
-            Gears::Retracted => true,
-            Gears::Extending => false,
-            Gears::Extended => false,
-            Gears::Retracting => false,
-        },
-        Aim::ToExtended => match gears {
-            Gears::Retracted => false,
-            Gears::Extending => false,
-            Gears::Extended => true,
-            Gears::Retracting => false,
-        },
-    }
+    matches!(
+        (aim, gears),
+        (Aim::ToRetracted, Gears::Retracted) | (Aim::ToExtended, Gears::Extended)
+    )
 }

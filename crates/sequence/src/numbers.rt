@@ -1,4 +1,5 @@
-// Handle, doors and gears as numbers (specs/Numbers.antt; requests K3 and K4).
+// Handle, doors and gears as numbers (specs/Numbers.antt; requests K3 and K4). (No From and TryFrom: theorems and docs/CONTRACTS.md name these, and those from a
+// number are total.)
 ghost use Rattle.std.specs.Prelude.{◌≡◌};
 ghost use Rattle.sequence.specs.Numbers.{handle_number, doors_number, gears_number, doors_at, gears_at};
 
@@ -9,10 +10,7 @@ impl Aim {
     pub fn number(self) -> u32
         ensures { result ≡ handle_number self }
     {
-        match self {
-            Aim::ToRetracted => 0,
-            Aim::ToExtended => 1,
-        }
+        self as u32
     }
 }
 
@@ -21,28 +19,20 @@ impl Doors {
     pub fn number(self) -> u32
         ensures { result ≡ doors_number self }
     {
-        match self {
-            Doors::Closed => 0,
-            Doors::Opening => 1,
-            Doors::Open => 2,
-            Doors::Closing => 3,
-        }
+        self as u32
     }
 
-    // The doors that have a number.
+    // The doors that have a number; one past the last is read as the last.
+    #[tactic(auto, unfolding(crate::specs::Numbers::doors_at))]
     pub fn numbered(number: u32) -> Self
         ensures { result ≡ doors_at number }
     {
-        if number == 0 {
-            return Doors::Closed;
+        match number {
+            0 => Doors::Closed,
+            1 => Doors::Opening,
+            2 => Doors::Open,
+            _ => Doors::Closing,
         }
-        if number == 1 {
-            return Doors::Opening;
-        }
-        if number == 2 {
-            return Doors::Open;
-        }
-        Doors::Closing
     }
 }
 
@@ -51,27 +41,19 @@ impl Gears {
     pub fn number(self) -> u32
         ensures { result ≡ gears_number self }
     {
-        match self {
-            Gears::Retracted => 0,
-            Gears::Extending => 1,
-            Gears::Extended => 2,
-            Gears::Retracting => 3,
-        }
+        self as u32
     }
 
-    // The gears that have a number.
+    // The gears that have a number; one past the last is read as the last. (Doors and gears have a type and a table each, so a match each.)
+    #[tactic(auto, unfolding(crate::specs::Numbers::gears_at))]
     pub fn numbered(number: u32) -> Self
         ensures { result ≡ gears_at number }
     {
-        if number == 0 {
-            return Gears::Retracted;
+        match number {
+            0 => Gears::Retracted,
+            1 => Gears::Extending,
+            2 => Gears::Extended,
+            _ => Gears::Retracting,
         }
-        if number == 1 {
-            return Gears::Extending;
-        }
-        if number == 2 {
-            return Gears::Extended;
-        }
-        Gears::Retracting
     }
 }

@@ -9,24 +9,14 @@ impl Doors {
     pub fn are_closed(self) -> bool
         ensures { result ≡ are_closed self }
     {
-        match self {
-            Doors::Closed => true,
-            Doors::Opening => false,
-            Doors::Open => false,
-            Doors::Closing => false,
-        }
+        self == Doors::Closed
     }
 
     // Doors OPEN.
     pub fn are_open(self) -> bool
         ensures { result ≡ are_open self }
     {
-        match self {
-            Doors::Closed => false,
-            Doors::Opening => false,
-            Doors::Open => true,
-            Doors::Closing => false,
-        }
+        self == Doors::Open
     }
 }
 
@@ -35,22 +25,16 @@ impl Gears {
     pub fn are_moving(self) -> bool
         ensures { result ≡ are_moving self }
     {
-        match self {
-            Gears::Retracted => false,
-            Gears::Extending => true,
-            Gears::Extended => false,
-            Gears::Retracting => true,
-        }
+        matches!(self, Gears::Extending | Gears::Retracting)
     }
 }
 
 impl Place {
     // Moving gears have doors OPEN.
+    #[tactic(auto, unfolding(crate::specs::Places::moving_have_open))]
     pub fn moving_have_open(self) -> bool
         ensures { result ≡ moving_have_open self }
     {
-        let doors = self.doors;
-        let gears = self.gears;
-        !gears.are_moving() | doors.are_open()
+        !self.gears.are_moving() || self.doors.are_open()
     }
 }

@@ -7,6 +7,7 @@ use mathlib.Core.Logic.{⊎_elim}
 use mathlib.Core.Path.{◌≡◌, refl, subst⁻¹}
 use Prim.Native.Nat.{ℕ}
 use lib.Dec.{T, eqb, T_not, not_T}
+use lib.Ieee.Bits.{is_true}
 use mir.Facts.{or_yes}
 use Rattle.common.proofs.Tests.{one_way, other_way}
 use Rattle.sequence.specs.declared.Doors.{Doors}
@@ -36,10 +37,6 @@ module _ (aim : Aim) (c : Core) where
   home_settles = other_way (anomaly c) (is_home aim c.place)
 
 -- ---- Red is kept, and home has no move
-
-is_true : (b : Bool) → T b → b ≡ true
-is_true true h = refl
-is_true false h = absurd h
 
 latched : (kept found : ℕ) → T (not (eqb kept 0)) → T (not (eqb (cond (not (eqb kept 0)) kept found) 0))
 latched kept found h = rw (is_true (not (eqb kept 0)) h) h

@@ -24,3 +24,5 @@ line_turn bytes line i h =
 pub no_line : (line : ℕ) → line_behind line [] ≡ line
 unfolding line_behind
 no_line line = refl
+
+pub ruleset turns = (line_turn, no_line)

@@ -5,6 +5,7 @@ use Rattle.common.specs.Ascii.{ascii, comma, crlf, joined_by_commas}
 use Rattle.common.specs.Decimal.{decimal}
 use Rattle.common.proofs.Decimals.{decimal_length}
 use Rattle.names.specs.Words.{order_names, lamp_names, sensor_names}
+use Rattle.names.proofs.Lengths.{order_names_length, lamp_names_length, sensor_names_length}
 use Rattle.dump.specs.Wires.{wire_names, wires}
 use Rattle.sheets.specs.Sheets.{other_names, sheet_header, row_room, value_field, sheet_row, later_fields}
 
@@ -27,6 +28,11 @@ header_parts = refl
 pub others_length : length other_names ≡ 2 + length (joined_by_commas lamp_names) + length (joined_by_commas sensor_names)
 unfolding other_names
 others_length = simp length-append (omega arith)
+
+pub header_length_lem : length sheet_header ≡ 415
+header_length_lem =
+    rw (sym header_parts)
+    (simp length-append (omega (arith, order_names_length, lamp_names_length, sensor_names_length, others_length)))
 
 -- Two bytes for each wire.
 pub fields_length : (vs : List Bool) → length (later_fields vs) ≡ 2 * length vs

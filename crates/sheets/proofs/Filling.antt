@@ -1,14 +1,19 @@
 -- What a call of the reader comes to for a sheet that is being filled: the part is used up; or a row is written, and the rest is taken in
 -- behind it; or a 9 has ended the reading.
 -- Assumes nothing.
-use Rattle.std.proofs.Common.{◌≡◌, ℕ, suc, ◌+◌, ◌<◌, ◌≤◌, Bool, true, false, cond, ltb, List, [], ◌∷◌, ◌++◌, length, take, drop, sym, refl, ap, ◌∙◌, subst, true≢false, append-nil, arith, length-append, take-append-drop, length-take-le, drop-drop, le-ltb, lt-ltb}
+use Rattle.std.specs.Result.{is_err}
+use mathlib.Core.Bool.{not}
+use Rattle.std.proofs.Common.{Result, Ok, Err, ◌≡◌, ℕ, suc, ◌+◌, ◌<◌, ◌≤◌, Bool, true, false, cond, ltb, Some, None, List, [], ◌∷◌, ◌++◌, length, take, drop, sym, refl, ap, ◌∙◌, subst, true≢false, append-nil, arith, length-append, take-append-drop, length-take-le, drop-drop, le-ltb, lt-ltb}
 use mathlib.Core.Bool.{false≢true}
 use lib.Seq.{take-length, take-append_seam}
 use Rattle.common.proofs.Pairs.{both}
 use Rattle.texts.specs.Puts.{Put}
 use Rattle.dump.specs.Wires.{wires}
 use Rattle.readback.specs.declared.Reader.{Reader}
-use Rattle.readback.specs.declared.Took.{Took as ReaderTook}
+use Rattle.readback.specs.declared.Took.{Took as ReaderGiven}
+use Rattle.readback.specs.declared.Refused.{Refused}
+use Rattle.readback.specs.Answers.{Took as ReaderTook, took_says}
+use Rattle.refusals.proofs.Laws.{no_zero}
 use Rattle.readback.specs.Bytes.{new_reader, byte_of}
 use Rattle.readback.specs.Reads.{is_bad, complete, begins, take_of, finish_of}
 use Rattle.readback.proofs.Parts.{through, Plain, Comes, take_comes, drop_front, last_by, finish_comes}
@@ -72,11 +77,11 @@ module _ (size : ℕ) (text : List ℕ) where
     pub forth : turn.sheet.nine ≡ false → 0 < length bytes → 0 < turn.used
     pub at_nine : turn.sheet.nine ≡ true
         → fill_from size s used text bytes ≡ (turn.sheet, used + length bytes, text)
-    pub at_end : turn.sheet.nine ≡ false → turn.given ≡ false
+    pub at_end : turn.sheet.nine ≡ false → turn.moment ≡ None
         → fill_from size s used text bytes ≡ (turn.sheet, used + turn.used, text)
-    pub at_row : turn.sheet.nine ≡ false → turn.given ≡ true
+    pub at_row : turn.sheet.nine ≡ false → {time : ℕ} → turn.moment ≡ Some time
         → fill_from size s used text bytes
-        ≡ with_text (sheet_row turn.time turn.sheet.reader.values) (with_row turn.sheet) (used + turn.used) (drop turn.used bytes)
+        ≡ with_text (sheet_row time turn.sheet.reader.values) (with_row turn.sheet) (used + turn.used) (drop turn.used bytes)
 
   turned_under : (r : Reader) (line rows used : ℕ) {bytes : List ℕ} (values : List ℕ) {answer : ReaderTook × List ℕ}
       → Comes r values r 0 bytes answer
@@ -92,7 +97,7 @@ module _ (size : ℕ) (text : List ℕ) where
             (ap (λ (l : List ℕ). fill_from size (under r line rows) used text l) (sym (append-nil bytes))
             ∙ plain_fills bytes r line rows used (used + length bytes) [] refl p
             ∙ none_fills (under (through r bytes) (line_behind line bytes) rows) (used + length bytes));
-        at_row = λ fine given. absurd (false≢true given);
+        at_row = λ fine given. absurd (cc);
       }
   turned_under r line rows used values (to_a_moment front b back n e p f g) =
       let same : n ≡ suc (length front) = omega arith in
@@ -102,13 +107,15 @@ module _ (size : ℕ) (text : List ℕ) where
         inside = simp length-append (omega arith);
         forth = λ fine some. omega arith;
         at_nine = λ nine. absurd (false≢true nine);
-        at_end = λ fine given. absurd (true≢false given);
-        at_row = λ fine given.
+        at_end = λ fine given. absurd (cc);
+        at_row = λ fine {time} given.
             let behind = under (byte_of m b) (line_after (line_behind line front) b) (one_more rows) in
+            let now : m.time ≡ time = cc in
             rw (same, take_front front b back, one_byte_more front line b, drop_front front b back, more)
             (plain_fills front r line rows used (used + length front) (b ∷ back) refl p
             ∙ begun_fills m (line_behind line front) rows (used + length front) b back f g
-            ∙ ap (λ (vs : List Bool). with_text (sheet_row m.time vs) behind (suc (used + length front)) back) (sym (begun_values m b g)));
+            ∙ ap (λ (vs : List Bool). with_text (sheet_row m.time vs) behind (suc (used + length front)) back) (sym (begun_values m b g))
+            ∙ ap (λ (t : ℕ). with_text (sheet_row t (byte_of m b).values) behind (suc (used + length front)) back) now);
       }
   turned_under r line rows used values (to_nothing front b back n e p f) =
       let same : n ≡ length front = omega arith in
@@ -136,13 +143,6 @@ module _ (size : ℕ) (text : List ℕ) where
       (turn_by s bytes (take_of s.reader bytes values).0))
       (sym fine)
       (turned_under s.reader s.line s.rows used values (take_comes s.reader bytes values wide))
-
--- The rule of `next`, from what the reader made of the same bytes.
-pub as_turn : (s : Sheet) (rest all values : List ℕ) (took : ReaderTook) (turn : Turn) → rest ≡ all → took ≡ (take_of s.reader rest values).0
-    → turn ≡ turn_by s rest took
-    → turn ≡ turn_by s all (take_of s.reader all values).0
-as_turn s rest all values took turn same e f =
-    f ∙ ap (turn_by s rest) e ∙ ap (λ (l : List ℕ). turn_by s l (take_of s.reader l values).0) same
 
 -- Whatever a call answers, it uses no more than there is.
 pub within : (r : Reader) (bytes values : List ℕ) {took : ReaderTook} {left : List ℕ} → length values ≡ wires → (took, left) ≡ take_of r bytes values
@@ -199,14 +199,22 @@ module _ (size : ℕ) {out row after : List ℕ} {written next : ℕ} (p : Put o
 -- ---- The end of the dump
 
 -- The last moment is complete exactly where it is not refused.
-pub last_refused : (r : Reader) (values : List ℕ) → length values ≡ wires → ((finish_of r values).0.refusal ≡ 0 → ⊥) → complete r ≡ false
+last_refused : (r : Reader) (values : List ℕ) → length values ≡ wires → ((finish_of r values).0.refusal ≡ 0 → ⊥) → complete r ≡ false
 last_refused r values wide = rw (finish_comes r values wide) (by_test (complete r)) where
   by_test : (t : Bool) → ((last_by t r values).0.refusal ≡ 0 → ⊥) → t ≡ false
   by_test true h = absurd (h refl)
   by_test false h = refl
 
-pub last_given : (r : Reader) (values : List ℕ) → length values ≡ wires → (finish_of r values).0.refusal ≡ 0 → complete r ≡ true
+last_given : (r : Reader) (values : List ℕ) → length values ≡ wires → (finish_of r values).0.refusal ≡ 0 → complete r ≡ true
 last_given r values wide = rw (finish_comes r values wide) (by_test (complete r)) where
   by_test : (t : Bool) → (last_by t r values).0.refusal ≡ 0 → t ≡ true
   by_test true h = refl
   by_test false h = absurd (omega arith)
+
+-- As the code tests it.
+pub last_tested : (r : Reader) (answer : Result ReaderGiven Refused) (values left : List ℕ) → length values ≡ wires
+    → (took_says r answer, left) ≡ finish_of r values
+    → complete r ≡ not (is_err answer)
+last_tested r (Ok t) values left wide e = last_given r values wide (sym (ap (λ (a : ReaderTook). a.refusal) (both e).0))
+last_tested r (Err f) values left wide e =
+    last_refused r values wide (λ none. no_zero f.refusal (ap (λ (a : ReaderTook). a.refusal) (both e).0 ∙ none))

@@ -11,7 +11,7 @@ use Rattle.readback.specs.Reads.{is_bad, complete, begins, moment_of, read_of}
 use Rattle.readback.specs.Calls.{Given, ahead, given_from, given_of}
 use Rattle.readback.proofs.Calls.{dump_gives}
 use Rattle.sheets.specs.declared.Sheet.{Sheet}
-use Rattle.sheets.specs.declared.Took.{Took}
+use Rattle.sheets.specs.Answers.{Took}
 use Rattle.sheets.specs.Sheets.{row_room, sheet_header, sheet_rows, sheet_of}
 use Rattle.sheets.specs.Runs.{
   new_sheet,

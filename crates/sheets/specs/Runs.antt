@@ -1,14 +1,14 @@
 -- The sheet of a dump by parts: what is still to come of a sheet under way, and what taking in a part into one output buffer gives.
 -- Assumes nothing.
-use Rattle.std.specs.Prelude.{◌≡◌, ℕ, zero, suc, ◌+◌, ◌%◌, ◌^◌, ◌<◌, ◌≤◌, true, false, cond, List, [], ◌∷◌, ◌++◌, length, take, drop, ◌==◌, nat_lt}
+use Rattle.std.specs.Prelude.{◌≡◌, ℕ, zero, suc, ◌+◌, ◌%◌, ◌^◌, ◌<◌, ◌≤◌, true, false, cond, Some, None, List, [], ◌∷◌, ◌++◌, length, take, drop, ◌==◌, nat_lt}
 use Rattle.common.specs.Ascii.{lf}
 use Rattle.readback.specs.declared.Reader.{Reader}
-use Rattle.readback.specs.declared.Took.{Took as ReaderTook}
+use Rattle.readback.specs.Answers.{Took as ReaderTook}
 use Rattle.readback.specs.Bytes.{new_reader, byte_of}
 use Rattle.readback.specs.Reads.{is_bad, complete, begins}
 use Rattle.sheets.specs.declared.Sheet.{Sheet}
 use Rattle.sheets.specs.declared.Turn.{Turn}
-use Rattle.sheets.specs.declared.Took.{Took}
+use Rattle.sheets.specs.Answers.{Took}
 use Rattle.sheets.specs.Sheets.{sheet_row, row_room}
 
 -- ---- A sheet under way
@@ -103,21 +103,19 @@ finish_of s out =
     (cond s.nine (filled (s, 0, []) out)
     (cond (complete s.reader) (filled (with_row s, 0, row_of s.reader) out) (filled (over s, 0, []) out)))
 
--- What a call of the reader on bytes comes to for a sheet: the sheet behind what is used of them, and the moment's time where one is
+-- What a call of the reader on bytes comes to for a sheet: the sheet behind what is used of them, and the moment's time, where one is
 -- given.
 abbrev pub turn_by : Sheet → List ℕ → ReaderTook → Turn
 turn_by s bytes took =
     cond (took.refusal == 0)
     (record {
       sheet = record { reader = took.reader; line = line_behind s.line (take took.used bytes); rows = s.rows; nine = false };
-      given = took.given;
-      time = took.time;
+      moment = cond took.given (Some took.time) None;
       used = took.used;
     })
     (record {
       sheet = record { reader = new_reader; line = line_behind s.line (take took.used bytes); rows = s.rows; nine = true };
-      given = false;
-      time = 0;
+      moment = None;
       used = took.used;
     })
 

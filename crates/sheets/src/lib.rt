@@ -4,15 +4,18 @@
 // the one that is refused. proofs/Law.antt says that however the input is cut, what is written in all is the sheet of the whole.
 #![tactic(auto)]
 
-ghost use Rattle.std.specs.Prelude.{◌≡◌, ◌+◌, ◌≤◌, false, [], length, take, drop, replicate};
+ghost use Rattle.std.specs.Prelude.{◌≡◌, ◌+◌, ◌≤◌, false, [], length, drop, replicate, IfOk};
 ghost use Rattle.texts.specs.Puts.{Put};
 ghost use Rattle.dump.specs.Wires.{wires};
 ghost use Rattle.readback.specs.Reads.{take_of};
+ghost use Rattle.sheets.specs.Answers.{took_says};
 ghost use Rattle.sheets.specs.Sheets.{row_room, sheet_row};
 ghost use Rattle.sheets.specs.Runs.{new_sheet, line_after, line_behind, with_row, over, fill_from, filled, fill_of, finish_of, turn_by};
 
 use dump::WIRES;
 use readback::Reader;
+use refusals::Refusal;
+use texts::Line;
 
 pub mod rows;
 
@@ -20,7 +23,7 @@ pub mod rows;
 pub const ROOM: usize = 22 + 2 * WIRES;
 
 // A sheet under way: the reader of the dump, the line that is being read, how many rows are written, and whether a 9 has ended it. Lines
-// and rows are counted modulo 2^64.
+// and rows are counted modulo 2^64. (`nine` is no Option over the rest: line and rows are told behind a 9 too.)
 #[derive(Clone, Copy)]
 pub struct Sheet {
     pub reader: Reader,
@@ -29,26 +32,25 @@ pub struct Sheet {
     pub nine: bool,
 }
 
-// What a call gives: the sheet after it, how much of the part is used, how many bytes were written, and 0 or refusal 8.
+// What a call gives: the sheet after it, how much of the part is used, and how many bytes were written.
 #[derive(Clone, Copy)]
 pub struct Took {
     pub sheet: Sheet,
     pub used: usize,
     pub written: usize,
-    pub refusal: u8,
 }
 
-// What a call of the reader comes to: the sheet behind it, whether a moment is complete, its time, and how much is used.
+// What a call of the reader comes to: the sheet behind it, the time of the moment that is complete, where one is, and how much is used.
 #[derive(Clone, Copy)]
 struct Turn {
     sheet: Sheet,
-    given: bool,
-    time: u64,
+    moment: Option<u64>,
     used: usize,
 }
 
 impl Sheet {
     // A sheet before the first byte.
+    #[tactic(auto, unfolding(crate::specs::Runs::new_sheet))]
     pub fn new() -> Self
         ensures { result ≡ new_sheet }
     {
@@ -63,109 +65,91 @@ impl Sheet {
     // Takes in a part of a dump and writes the rows of the moments that are complete in it, each behind the one before it, until the part
     // is used up, a 9 has ended the reading, or less than the room for a row is left. The output buffer must have room for a row; the
     // rest of the part is for the next call. After a 9 the rest gives nothing.
-    pub fn fill(self, part: &[u8], out: &mut [u8]) -> Took
-        ensures out_after { (result, out.new) ≡ fill_of self part.now out.old }
-        ensures used_in_bounds { (result.used ≤ length part.now) × (result.written ≤ length out.old) }
+    #[tactic(auto, unfolding(crate::specs::Runs::fill_of))]
+    pub fn fill(self, part: &[u8], out: &mut [u8]) -> Result<Took, Refusal>
+        ensures out_after { (took_says self result, out.new) ≡ fill_of self part.now out.old }
+        ensures used_in_bounds { IfOk result (λ took. (took.used ≤ length part.now) × (took.written ≤ length out.old)) }
     {
         if out.len() < ROOM {
-            return self.took(0, 0, 8);
+            return Err(Refusal::Room);
         }
         if self.nine {
-            return self.took(part.len(), 0, 0);
+            return Ok(self.took(part.len(), 0));
         }
-        self.fill_all(part, out)
+        Ok(self.fill_all(part, out))
     }
 
     // The end of the dump: the row of the last moment. The output buffer must have room for a row. After a 9 there is none.
-    pub fn finish(self, out: &mut [u8]) -> Took
-        ensures out_after { (result, out.new) ≡ finish_of self out.old }
-        ensures written_in_bounds { result.written ≤ length out.old }
+    #[tactic(auto, unfolding(crate::specs::Runs::finish_of))]
+    pub fn finish(self, out: &mut [u8]) -> Result<Took, Refusal>
+        ensures out_after { (took_says self result, out.new) ≡ finish_of self out.old }
+        ensures written_in_bounds { IfOk result (λ took. took.written ≤ length out.old) }
     {
         if out.len() < ROOM {
-            return self.took(0, 0, 8);
+            return Err(Refusal::Room);
         }
         if self.nine {
-            return self.took(0, 0, 0);
+            return Ok(self.took(0, 0));
         }
-        let reader = self.reader;
-        let mut values = [0u8; WIRES];
-        let last = reader.finish(&mut values);
-        if last.refusal != 0 {
-            let ended = self.over();
-            return ended.took(0, 0, 0);
+        if self.reader.finish(&mut [0u8; WIRES]).is_err() {
+            return Ok(self.over().took(0, 0));
         }
-        let shown = reader.values;
-        let written = row_at(out, 0, reader.time, shown);
-        let sheet = self.with_row();
-        sheet.took(0, written, 0)
+        let written = row_at(out, 0, self.reader.time, self.reader.values);
+        Ok(self.with_row().took(0, written))
     }
 
-    // Takes in the part moment by moment.
+    // Takes in the part moment by moment: `used` goes on by what the reader used of it.
     fn fill_all(self, part: &[u8], out: &mut [u8]) -> Took
         requires { (self.nine ≡ false) × (row_room ≤ length out.old) }
-        ensures out_after { (result, out.new) ≡ filled (fill_from (length out.old) self 0 [] part.now) out.old }
+        ensures out_after { (took_says self (Ok result), out.new) ≡ filled (fill_from (length out.old) self 0 [] part.now) out.old }
         ensures used_in_bounds { (result.used ≤ length part.now) × (result.written ≤ length out.old) }
     {
         let mut sheet = self;
         let mut used = 0;
         let mut written = 0;
         while used < part.len() {
-            let turn = sheet.next(part, used);
-            let after = turn.sheet;
-            if after.nine {
-                return after.took(part.len(), written, 0);
+            let turn = sheet.next(&part[used..]);
+            if turn.sheet.nine {
+                return turn.sheet.took(part.len(), written);
             }
             used += turn.used;
-            if !turn.given {
-                return after.took(used, written, 0);
-            }
-            let reader = after.reader;
-            let values = reader.values;
-            written = row_at(out, written, turn.time, values);
-            sheet = after.with_row();
+            let Some(time) = turn.moment else {
+                return turn.sheet.took(used, written);
+            };
+            written = row_at(out, written, time, turn.sheet.reader.values);
+            sheet = turn.sheet.with_row();
             if out.len() - written < ROOM {
-                return sheet.took(used, written, 0);
+                return sheet.took(used, written);
             }
         }
-        sheet.took(used, written, 0)
+        sheet.took(used, written)
     }
 
-    // What the reader makes of the part from a place on.
-    fn next(self, part: &[u8], from: usize) -> Turn
-        requires { from ≤ length part.now }
-        ensures { result ≡ turn_by self (drop from part.now) (take_of self.reader (drop from part.now) (replicate wires 0)).0 }
+    // What the reader makes of what is left of the part.
+    fn next(self, rest: &[u8]) -> Turn
+        ensures { result ≡ turn_by self rest.now (take_of self.reader rest.now (replicate wires 0)).0 }
     {
-        let reader = self.reader;
-        let rest = &part[from..];
-        let mut values = [0u8; WIRES];
-        let took = reader.take(rest, &mut values);
-        let line = line_behind(self.line, rest, took.used);
-        if took.refusal != 0 {
-            let ended = Sheet {
-                reader: Reader::new(),
-                line,
-                rows: self.rows,
-                nine: true,
-            };
-            return Turn {
-                sheet: ended,
-                given: false,
-                time: 0,
+        match self.reader.take(rest, &mut [0u8; WIRES]) {
+            Ok(took) => Turn {
+                sheet: Sheet {
+                    reader: took.reader,
+                    line: line_behind(self.line, &rest[..took.used]),
+                    rows: self.rows,
+                    nine: false,
+                },
+                moment: took.moment,
                 used: took.used,
-            };
-        }
-        let after = took.reader;
-        let sheet = Sheet {
-            reader: after,
-            line,
-            rows: self.rows,
-            nine: false,
-        };
-        Turn {
-            sheet,
-            given: took.given,
-            time: took.time,
-            used: took.used,
+            },
+            Err(refused) => Turn {
+                sheet: Sheet {
+                    reader: Reader::new(),
+                    line: line_behind(self.line, &rest[..refused.used]),
+                    rows: self.rows,
+                    nine: true,
+                },
+                moment: None,
+                used: refused.used,
+            },
         }
     }
 
@@ -173,12 +157,10 @@ impl Sheet {
     fn with_row(self) -> Self
         ensures { result ≡ with_row self }
     {
-        let reader = self.reader;
         Sheet {
-            reader,
-            line: self.line,
-            rows: std::num::wrapping_add_u64(self.rows, 1),
+            rows: self.rows.wrapping_add(1),
             nine: false,
+            ..self
         }
     }
 
@@ -188,43 +170,42 @@ impl Sheet {
     {
         Sheet {
             reader: Reader::new(),
-            line: self.line,
-            rows: self.rows,
             nine: true,
+            ..self
         }
     }
 
     // This sheet, with how much is used and written.
-    fn took(self, used: usize, written: usize, refusal: u8) -> Took
-        ensures { result ≡ record { sheet = self; used = used; written = written; refusal = refusal } }
+    fn took(self, used: usize, written: usize) -> Took
+        ensures { result ≡ record { sheet = self; used = used; written = written } }
     {
         Took {
             sheet: self,
             used,
             written,
-            refusal,
         }
     }
 }
 
-// Puts the row of a time at a place of the output buffer that has room for it.
+// Puts the row of a time at a place of the output buffer that has room for it. (Buffer and place, and no `Line`: `filled` of specs/Runs.antt and
+// the proof of `fill_all` speak of these.)
 fn row_at(out: &mut [u8], at: usize, time: u64, values: [bool; WIRES]) -> usize
     requires { at + row_room ≤ length out.old }
     ensures { (result ≤ at + row_room) × Put out.old at (sheet_row time values) out.new result }
 {
-    rows::put_row(out, at, time, values)
+    let mut line = Line { bytes: out, at };
+    rows::put_row(&mut line, time, values);
+    line.at
 }
 
-// The line behind so many bytes of a part.
-fn line_behind(line: u64, bytes: &[u8], n: usize) -> u64
-    requires { n ≤ length bytes.now }
-    ensures { result ≡ line_behind line (take n bytes.now) }
+// The line behind bytes.
+#[tactic(auto, using(crate::proofs::Counting::turns))]
+fn line_behind(line: u64, bytes: &[u8]) -> u64
+    ensures { result ≡ line_behind line bytes.now }
 {
     let mut at = line;
-    let mut i = 0;
-    while i < n {
-        at = line_after(at, bytes[i]);
-        i += 1;
+    for &b in bytes {
+        at = line_after(at, b);
     }
     at
 }
@@ -234,7 +215,8 @@ fn line_after(line: u64, b: u8) -> u64
     ensures { result ≡ line_after line b }
 {
     if b == b'\n' {
-        return std::num::wrapping_add_u64(line, 1);
+        line.wrapping_add(1)
+    } else {
+        line
     }
-    line
 }

@@ -1,33 +1,32 @@
--- A part of a list is its first byte and the part behind it, and so a byte's place in it is 0 or one more than behind it.
-use Rattle.std.proofs.Common.{◌≡◌, ℕ, suc, ◌<◌, ◌≤◌, List, ◌∷◌, length, get_or, ap, ◌∙◌, take, eqb, arith}
-use Rattle.std.proofs.Math.ListN.{drop_of_length-le}
-use Rattle.std.proofs.Math.Seq.{slice-cons}
-use Rattle.std.proofs.lemmas.Bool.{cond-true, cond-false, eq-eqb, ne_eqb}
-use Rattle.std.proofs.lemmas.List.{length-take-le}
+-- The place of a byte is that of the first that passes the test of being it.
+use Rattle.std.proofs.Common.{◌≡◌, ℕ, ◌-◌, ◌+◌, ◌≤◌, List, refl, ap, ◌∙◌, eqb, length, take, drop, cond, arith, length-drop, length-take}
+use Rattle.std.specs.Prelude.{Option, Some, None}
+use Rattle.std.specs.List.{position, position_or_len}
+use Rattle.std.proofs.lemmas.Grind.{common_steps}
+use Rattle.std.proofs.lemmas.List.{drop-take}
+use Rattle.std.proofs.lemmas.List.Recursion.{is_position_or_len}
+use Rattle.std.proofs.lemmas.List.Sums.{prefix_len-le-length}
 use Rattle.spans.specs.Bytes.{slice, index_of}
 
--- a part that is not empty is its first byte, and the part behind it
-pub slice_cons : (i to : ℕ) (s : List ℕ) (d : ℕ) → i < to → to ≤ length s → slice i to s ≡ get_or s i d ∷ slice (suc i) to s
+-- What a search for a byte finds.
+abbrev pub Place : ℕ → List ℕ → Option ℕ → Type 0
+Place b s found = found ≡ position (λ x. eqb x b) s
+
+first_such : (b : ℕ) (s : List ℕ) → index_of b s ≡ position_or_len (λ x. eqb x b) s
+unfolding index_of
+first_such b s = is_position_or_len (index_of b) (λ x. eqb x b) refl (λ x xs. ap (λ n. cond (eqb x b) 0 n) (omega arith)) s
+
+pub found_at : (b i : ℕ) (s : List ℕ) → Place b s (Some i) → i ≡ index_of b s
+found_at b i s e = grind (arith, common_steps, first_such b s)
+
+pub found_nowhere : (b : ℕ) (s : List ℕ) → Place b s None → index_of b s ≡ length s
+found_nowhere b s e = grind (arith, common_steps, first_such b s, prefix_len-le-length)
+
+-- A part of a list by its length.
+pub is_slice : (from to : ℕ) (s : List ℕ) → from ≤ to → slice from to s ≡ take (to - from) (drop from s)
 unfolding slice
-slice_cons i to s d below within = slice-cons i to s d below within
+is_slice from to s h = let e : to ≡ from + (to - from) = omega arith in ap (λ n. drop from (take n s)) e ∙ drop-take from (to - from) s
 
--- a byte that the part begins with is at its start
-pub index_of_slice_here : (b i to : ℕ) (s : List ℕ) → i < to → to ≤ length s → get_or s i 0 ≡ b → index_of b (slice i to s) ≡ 0
-unfolding index_of
-index_of_slice_here b i to s below within same =
-    ap (λ t. index_of b t) (slice_cons i to s 0 below within)
-    ∙ cond-true (eqb (get_or s i 0) b) 0 (suc (index_of b (slice (suc i) to s))) (eq-eqb (get_or s i 0) b same)
-
--- one that it does not begin with is sought behind its first
-pub index_of_slice_past : (b i to : ℕ) (s : List ℕ) → i < to → to ≤ length s → (get_or s i 0 ≡ b → ⊥) → index_of b (slice i to s) ≡ suc (index_of b (slice (suc i) to s))
-unfolding index_of
-index_of_slice_past b i to s below within other =
-    ap (λ t. index_of b t) (slice_cons i to s 0 below within)
-    ∙ cond-false (eqb (get_or s i 0) b) 0 (suc (index_of b (slice (suc i) to s))) (ne_eqb (get_or s i 0) b other)
-
--- in an empty part it is at the end, which is the start
-pub index_of_slice_none : (b i to : ℕ) (s : List ℕ) → to ≤ i → to ≤ length s → index_of b (slice i to s) ≡ 0
-unfolding index_of slice
-index_of_slice_none b i to s past within =
-    let short : length (take to s) ≤ i = omega (arith, length-take-le to s within) in
-    ap (λ t. index_of b t) (drop_of_length-le (take to s) short)
+pub length_slice : (from to : ℕ) (s : List ℕ) → to ≤ length s → length (slice from to s) ≡ to - from
+unfolding slice
+length_slice from to s h = simp (length-drop, length-take) (omega arith)

@@ -15,17 +15,16 @@ pub fn copy(src: &[u8], dst: &mut [u8]) -> usize
     n
 }
 
-// The place of the first `byte` from `from` up to `to`, or `to` where there is none.
+// The place of the first `byte` from `from` up to `to`, or `to` where there is none. (No Option: `index_of` has it so, and the callers go on from
+// the place.)
 pub fn find(s: &[u8], from: usize, to: usize, byte: u8) -> usize
     requires ends { from ≤ to }
     requires within { to ≤ length s.now }
     ensures place { result ≡ from + index_of byte (slice from to s.now) }
     ensures in_range { result ≤ to }
 {
-    for i in from..to {
-        if s[i] == byte {
-            return i;
-        }
+    match s[from..to].iter().position(|b| *b == byte) {
+        Some(i) => from + i,
+        None => to,
     }
-    to
 }

@@ -2,13 +2,13 @@
 -- Assumes nothing.
 use Prim.Native.Nat.{ℕ, zero, suc, ◌+◌, ◌*◌, ◌/◌, ◌%◌, ◌<◌, ◌≤◌}
 use native.Mathlib.Omega.{arith}
-use mathlib.Core.Bool.{Bool, true, false}
+use mathlib.Core.Bool.{Bool}
 use mathlib.Core.List.{List, []}
 use mathlib.Core.Path.{◌≡◌, refl, ap, ◌∙◌}
 use lib.Dec.{lit≤}
-use mir.Val.{bool_byte}
 use lib.ListN.{get_or}
 use Rattle.common.specs.Bits.{bit}
+use Rattle.common.proofs.Bits.{one_of_bit, bit_of_one, bit_to_1, byte_is_bit, byte_to_1}
 use Rattle.common.proofs.Given.{given_at, given_at_0}
 use Rattle.sequence.specs.declared.Aim.{Aim}
 use Rattle.sequence.specs.declared.Aim.TheVariants.{ToRetracted, ToExtended}
@@ -31,19 +31,6 @@ use Rattle.sequence.proofs.Numbering.{
 
 -- ---- Each part of a number
 
-pub bit_to_1 : (b : Bool) → bit b ≤ 1
-bit_to_1 true = lit≤ tt
-bit_to_1 false = lit≤ tt
-
--- A fact as the machine holds it.
-pub to_1 : (b : Bool) → bool_byte b ≤ 1
-to_1 true = lit≤ tt
-to_1 false = lit≤ tt
-
-pub as_bit : (b : Bool) → bool_byte b ≡ bit b
-as_bit true = refl
-as_bit false = refl
-
 pub handle_to_1 : (aim : Aim) → handle_number aim ≤ 1
 handle_to_1 ToRetracted = lit≤ tt
 handle_to_1 ToExtended = lit≤ tt
@@ -56,10 +43,6 @@ pub facts_to_15 : (seen : Seen) → facts_number seen ≤ 15
 unfolding facts_number
 facts_to_15 seen =
     omega (arith, bit_to_1 seen.opened, bit_to_1 seen.closed, bit_to_1 seen.extended, bit_to_1 seen.retracted)
-
-one_is : (b : Bool) → is_one (bit b) ≡ b
-one_is true = refl
-one_is false = refl
 
 handle_is : (aim : Aim) → aim_of (is_one (handle_number aim)) ≡ aim
 handle_is ToRetracted = refl
@@ -125,22 +108,17 @@ asked_at_number a =
       p.part_c,
       p.part_e,
       p.part_r,
-      one_is a.grounded,
+      one_of_bit a.grounded,
       handle_is a.aim,
       doors_at_number a.place.doors,
       gears_at_number a.place.gears,
-      one_is a.seen.opened,
-      one_is a.seen.closed,
-      one_is a.seen.extended,
-      one_is a.seen.retracted,
+      one_of_bit a.seen.opened,
+      one_of_bit a.seen.closed,
+      one_of_bit a.seen.extended,
+      one_of_bit a.seen.retracted,
     )
 
 -- .. and what is asked its number.
-bit_is_one : (n : ℕ) → n ≤ 1 → bit (is_one n) ≡ n
-bit_is_one zero h = refl
-bit_is_one (suc zero) h = refl
-bit_is_one (suc (suc n)) h = absurd (omega arith)
-
 handle_of_one : (n : ℕ) → n ≤ 1 → handle_number (aim_of (is_one n)) ≡ n
 handle_of_one zero h = refl
 handle_of_one (suc zero) h = refl
@@ -156,14 +134,14 @@ pub number_at_asked : (n : ℕ) → n < entries → number_of (asked_at n) ≡ n
 unfolding number_of ground_and_handle facts_number asked_at facts_at
 number_at_asked n h =
     simp (
-      bit_is_one (n / 512 % 2) (omega arith),
+      bit_of_one (n / 512 % 2) (omega arith),
       handle_of_one (n / 256 % 2) (omega arith),
       number_at_doors (n / 64 % 4) (omega arith),
       number_at_gears (n / 16 % 4) (omega arith),
-      bit_is_one (n / 8 % 2) (omega arith),
-      bit_is_one (n / 4 % 2) (omega arith),
-      bit_is_one (n / 2 % 2) (omega arith),
-      bit_is_one (n % 2) (omega arith),
+      bit_of_one (n / 8 % 2) (omega arith),
+      bit_of_one (n / 4 % 2) (omega arith),
+      bit_of_one (n / 2 % 2) (omega arith),
+      bit_of_one (n % 2) (omega arith),
     )
     (whole n (n / 2) (n / 4) (n / 8) (n / 16) (n / 64) (n / 256) _ _ _ _ _ _ _ _
     (omega arith)
@@ -201,3 +179,11 @@ table_is_rule n h =
 -- So it tells what comes next of whatever is asked.
 pub table_tells : (a : Asked) → entry_at (number_of a) ≡ next_of a
 table_tells a = table_is_rule (number_of a) (number_below a) ∙ ap next_of (asked_at_number a)
+
+-- ---- What the functions' proofs use: facts and handle as bits, how large the parts of a number are, and what is looked up
+
+pub ruleset as_bits = (byte_to_1, byte_is_bit, handle_to_1)
+
+pub ruleset parts_below = (to_768, facts_to_15, doors_to_3, gears_to_3)
+
+pub ruleset looked_up = (number_below, table_tells)

@@ -63,3 +63,6 @@ pub table_number_lem : table_number ≡ 4087680
 unfolding at_aim next_gears doors_to_gears doors_home move_of aim_in_force doors_at gears_at
     given_from facts_at asked_at next_of place_number ruled_at row_at table flatten weighed_from table_number
 table_number_lem = refl
+
+-- What adding up uses: no entries, one more, all of them, and the most that one adds.
+pub ruleset added_up = (no_entries, sum_turn, all_entries_summed, weighed_to)

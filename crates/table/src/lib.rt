@@ -3,7 +3,7 @@
 #![tactic(auto)]
 
 ghost use Rattle.std.specs.Prelude.{◌≡◌, ◌<◌};
-ghost use Rattle.sequence.specs.Moves.{aim_of, move_on};
+ghost use Rattle.sequence.specs.Moves.{move_on};
 ghost use Rattle.table.specs.Sums.{weighed_at, table_number};
 ghost use Rattle.table.specs.Table.{
   entries,
@@ -30,7 +30,7 @@ pub const ENTRIES: usize = 1024;
 const IN_THE_AIR: usize = 512;
 
 // What the table is asked: whether any absorber is on ground, handle, doors, gears, and what is seen.
-#[derive(Clone, Copy)]
+#[derive(Clone, Copy, PartialEq, Eq)]
 pub struct Asked {
     pub grounded: bool,
     pub aim: Aim,
@@ -38,17 +38,19 @@ pub struct Asked {
     pub seen: Seen,
 }
 
-// At most one move of doors and gears: what the table tells.
+// At most one move of doors and gears: what the table tells. (It takes what the rule `move_on` takes, for the controller; `Asked` is the same four
+// as one entry.)
+#[tactic(auto, unfolding(crate::specs::Table::next_of))]
 pub fn moved(place: Place, grounded: bool, aim: Aim, seen: Seen) -> Place
     ensures { result ≡ move_on grounded aim place seen }
 {
-    let asked = Asked {
+    Asked {
         grounded,
         aim,
         place,
         seen,
-    };
-    asked.next()
+    }
+    .next()
 }
 
 // The constant that the table is.
@@ -59,19 +61,19 @@ pub fn all_entries() -> [[u8; 16]; 64]
 }
 
 // The table as one number, computed from what it tells at each entry, so that what was printed of it can be held to what runs.
+#[tactic(auto, using(crate::proofs::Weights::added_up))]
 pub fn table_number() -> u64
     ensures { result ≡ table_number }
 {
     let mut sum = 0;
-    let mut n = 0;
-    while n < ENTRIES {
+    for n in 0..ENTRIES {
         sum += weighed(n);
-        n += 1;
     }
     sum
 }
 
 // Whether the entry of a number, on ground, is another than in the air.
+#[tactic(auto, unfolding(crate::specs::Table::changed_by_ground))]
 pub fn changed_by_ground(n: usize) -> bool
     ensures { result ≡ changed_by_ground n }
 {
@@ -79,38 +81,35 @@ pub fn changed_by_ground(n: usize) -> bool
 }
 
 impl Asked {
-    // The number of the entry, 0 to 1,023.
+    // The number of the entry, 0 to 1,023. (No From and TryFrom, here and below: theorems name these, and the second is total.)
+    #[tactic(auto, using(crate::proofs::Entries::parts_below), unfolding(crate::specs::Table::number_of))]
     pub fn number(self) -> usize
         ensures { result ≡ number_of self }
     {
-        let place = self.place;
-        let doors = place.doors;
-        let gears = place.gears;
-        let aim = self.aim;
-        let facts = facts_number(self.seen);
-        ground_and_handle(self.grounded, aim)
-            + 64 * (doors.number() as usize)
-            + 16 * (gears.number() as usize)
-            + facts
+        ground_and_handle(self.grounded, self.aim)
+            + 64 * (self.place.doors.number() as usize)
+            + 16 * (self.place.gears.number() as usize)
+            + facts_number(self.seen)
     }
 
     // What is asked at a number.
+    #[tactic(auto, unfolding(crate::specs::Table::asked_at))]
     pub fn numbered(n: usize) -> Self
         ensures { result ≡ asked_at n }
     {
-        let place = Place {
-            doors: Doors::numbered((n / 64 % 4) as u32),
-            gears: Gears::numbered((n / 16 % 4) as u32),
-        };
         Asked {
             grounded: n / 512 % 2 == 1,
-            aim: aim_of(n / 256 % 2 == 1),
-            place,
+            aim: Aim::of_handle(n / 256 % 2 == 1),
+            place: Place {
+                doors: Doors::numbered((n / 64 % 4) as u32),
+                gears: Gears::numbered((n / 16 % 4) as u32),
+            },
             seen: facts_at(n),
         }
     }
 
     // The next doors and gears: what the table tells.
+    #[tactic(auto, using(crate::proofs::Entries::looked_up), unfolding(crate::specs::Table::entry_at))]
     pub fn next(self) -> Place
         ensures { result ≡ next_of self }
     {
@@ -120,6 +119,7 @@ impl Asked {
 
 // The next doors and gears: 4 times the doors' number and the gears'. A row for each place of ground, handle, doors and gears; in it
 // an entry for each set of the facts: all open (8), all closed (4), all extended (2), all retracted (1). `[6; 16]`: whatever is seen.
+// (Bytes and no Places: `table` is the document's numbers, and so is what is printed of it.)
 const NEXT: [[u8; 16]; 64] = [
     [0; 16], // handle up, doors CLOSED, gears RETRACTED
     [5; 16], // handle up, doors CLOSED, gears EXTENDING
@@ -188,6 +188,7 @@ const NEXT: [[u8; 16]; 64] = [
 ];
 
 // Ground and handle as a number, the ground most significant.
+#[tactic(auto, using(crate::proofs::Entries::as_bits), unfolding(crate::specs::Table::ground_and_handle))]
 fn ground_and_handle(grounded: bool, aim: Aim) -> usize
     ensures { result ≡ ground_and_handle grounded aim }
 {
@@ -195,6 +196,7 @@ fn ground_and_handle(grounded: bool, aim: Aim) -> usize
 }
 
 // The facts as a number: all open, all closed, all extended, all retracted, the first most significant.
+#[tactic(auto, using(crate::proofs::Entries::as_bits), unfolding(crate::specs::Table::facts_number))]
 fn facts_number(seen: Seen) -> usize
     ensures { result ≡ facts_number seen }
 {
@@ -205,6 +207,7 @@ fn facts_number(seen: Seen) -> usize
 }
 
 // What is seen at a number.
+#[tactic(auto, unfolding(crate::specs::Table::facts_at))]
 fn facts_at(n: usize) -> Seen
     ensures { result ≡ facts_at n }
 {
@@ -216,18 +219,8 @@ fn facts_at(n: usize) -> Seen
     }
 }
 
-// What the handle aims at.
-fn aim_of(down: bool) -> Aim
-    ensures { result ≡ aim_of down }
-{
-    if down {
-        Aim::ToExtended
-    } else {
-        Aim::ToRetracted
-    }
-}
-
 // The doors and gears that an entry holds.
+#[tactic(auto, unfolding(crate::specs::Table::place_at))]
 fn place_at(entry: u8) -> Place
     ensures { result ≡ place_at entry }
 {
@@ -238,23 +231,23 @@ fn place_at(entry: u8) -> Place
 }
 
 // Doors and gears as an entry holds them.
+#[tactic(auto, unfolding(crate::specs::Table::place_number))]
 fn place_number(place: Place) -> u64
     ensures { result ≡ place_number place }
 {
-    let doors = place.doors;
-    let gears = place.gears;
-    4 * (doors.number() as u64) + (gears.number() as u64)
+    4 * (place.doors.number() as u64) + (place.gears.number() as u64)
 }
 
 // What the table tells at a number, as an entry holds it.
+#[tactic(auto, unfolding(crate::specs::Table::ruled_at))]
 fn told(n: usize) -> u64
     ensures { result ≡ ruled_at n }
 {
-    let asked = Asked::numbered(n);
-    place_number(asked.next())
+    place_number(Asked::numbered(n).next())
 }
 
 // What the entry of a number adds to the table's number.
+#[tactic(auto, using(crate::proofs::Weights::weighed_to))]
 fn weighed(n: usize) -> u64
     requires { n < entries }
     ensures { result ≡ weighed_at n }
@@ -267,6 +260,5 @@ fn entry(n: usize) -> u8
     requires { n < entries }
     ensures { result ≡ entry_of table n }
 {
-    let all = all_entries();
-    all[n / 16][n % 16]
+    all_entries()[n / 16][n % 16]
 }

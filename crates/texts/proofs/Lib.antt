@@ -1,3 +1,4 @@
 pub mod Once
 pub mod Pieces
 pub mod Placing
+pub mod Lines

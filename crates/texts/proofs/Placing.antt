@@ -3,12 +3,10 @@
 use Prim.Native.Nat.{ℕ, suc, ◌+◌, ◌-◌, ◌/◌, ◌%◌, ◌^◌, ◌<◌, ◌≤◌}
 use native.Mathlib.Nat.{add_assoc, add-zero, zero-add}
 use native.Mathlib.Omega.{arith}
-use mathlib.Core.Bool.{Bool, true, false}
 use mathlib.Core.List.{List, [], ◌∷◌, ◌++◌, append_assoc, append-nil}
-use mathlib.Core.Path.{◌≡◌, refl, sym, ap, subst, ◌∙◌}
+use mathlib.Core.Path.{◌≡◌, refl, sym, ap, ◌∙◌}
 use Rattle.common.proofs.Pairs.{both}
-use borrow.Author.Tests.{le-leb, lt-leb, leb-true, leb-false}
-use lib.Dec.{leb}
+use borrow.Author.Tests.{le-leb, lt-leb}
 use borrow.Rule.Slice.PartMut.{mid_of, post_of, put_mid}
 use lib.ListN.{length, set, take, drop, length-append, length-set, length-take, length-drop, take-append-drop}
 use lib.Seq.{
@@ -97,13 +95,6 @@ pub put_nothing : (line : List ℕ) (at : ℕ) → Put line at [] line at
 put_nothing line at =
     record { place = sym (add-zero at); size = refl; text = sym (append-nil (take at line)); past = refl }
 
--- So it is by the rule, with room or without.
-pub put_empty : (line : List ℕ) (at : ℕ) → (at, line) ≡ put_of line at []
-put_empty line at = by_test (leb (at + 0) (length line)) refl where
-  by_test : (t : Bool) → leb (at + 0) (length line) ≡ t → (at, line) ≡ put_of line at []
-  by_test true e = as_put (leb-true _ _ e) (put_nothing line at)
-  by_test false e = no_room line at [] (leb-false _ _ e)
-
 -- Two pieces, the second after the first, are one.
 pub then : {before : List ℕ} {at : ℕ} {one between : List ℕ} {next : ℕ} {two after : List ℕ} {last : ℕ}
     → Put before at one between next → Put between next two after last → Put before at (one ++ two) after last
@@ -120,10 +111,6 @@ then {before} {at} {one} {between} {next} {two} {after} {last} p q =
           ∙ drop-drop (length two) next before
           ∙ ap (λ (k : ℕ). drop k before) (sym q.place);
     }
-
--- The same piece written otherwise.
-pub same_piece : {before : List ℕ} {at : ℕ} {one other after : List ℕ} {next : ℕ} → one ≡ other → Put before at one after next → Put before at other after next
-same_piece {before} {at} {after = after} {next = next} e p = subst (λ (l : List ℕ). Put before at l after next) e p
 
 -- A piece at the front: the place after it is its length, and the line is the piece and the bytes past it.
 module _ {before piece after : List ℕ} {next : ℕ} (p : Put before 0 piece after next) where

@@ -26,23 +26,21 @@ too_great v (b ∷ bs) h = either (is_digit b) (too_great (v * 10 + (b - digit0)
 
 -- Of the byte at i, with v the value of those before it.
 module _ (s : List ℕ) (v i : ℕ) (h : i < length s) where
-  pub one_digit : digit0 ≤ get_or s i 0 → get_or s i 0 ≤ digit0 + 9
-      → digits_from v (drop i s) ≡ digits_from (v * 10 + (get_or s i 0 - digit0)) (drop (i + 1) s)
+  pub one_digit : is_digit (get_or s i 0) ≡ true → digits_from v (drop i s) ≡ digits_from (v * 10 + (get_or s i 0 - digit0)) (drop (i + 1) s)
   unfolding digits_from
-  one_digit low high = rw (drop-cons s i 0, add-one) (simp (le-leb _ _ low, le-leb _ _ high))
+  one_digit digit = rw (drop-cons s i 0, add-one) (simp digit)
 
-  pub below_digits : get_or s i 0 < digit0 → digits_from v (drop i s) ≡ refuses 5
+  pub no_digit : is_digit (get_or s i 0) ≡ false → digits_from v (drop i s) ≡ refuses 5
   unfolding digits_from
-  below_digits low = rw (drop-cons s i 0) (simp (lt-leb _ _ low))
-
-  pub above_digits : digit0 ≤ get_or s i 0 → digit0 + 9 < get_or s i 0 → digits_from v (drop i s) ≡ refuses 5
-  unfolding digits_from
-  above_digits low high = rw (drop-cons s i 0) (simp (le-leb _ _ low, lt-leb _ _ high))
+  no_digit other = rw (drop-cons s i 0) (simp other)
 
 -- At the end the value is what was read.
 pub all_read : (s : List ℕ) (v i : ℕ) → length s ≤ i → v ≤ greatest → digits_from v (drop i s) ≡ gives v
 unfolding digits_from
 all_read s v i h fits = rw (drop_of_length-le s h) (simp (le-leb _ _ fits))
+
+-- What a reader of digits needs at each of them.
+pub ruleset digits = (too_great, one_digit, no_digit, all_read)
 
 -- ---- The digits 0 and 1
 

@@ -4,10 +4,10 @@ use mathlib.Core.Path.{◌≡◌, refl}
 use mathlib.Core.List.{List, [], ◌∷◌, ◌++◌, map}
 use Prim.Native.Nat.{ℕ}
 use lib.ListN.{replicate}
+use Rattle.std.specs.Prelude.{Some, None}
 use Rattle.common.specs.Answers.{gives, refuses}
 use Rattle.common.specs.Ascii.{ascii, joined_by_commas}
 use Rattle.common.specs.Decimal.{decimal_up_to, decimal}
-use Rattle.trace.specs.declared.Due.TheVariants.{Label, Nothing}
 use Rattle.trace.specs.Numbers.{digits_from, number_of, triple_of}
 use Rattle.trace.specs.Rows.{up_to_comma, field_part, fields_of, triples_of, form_of, in_turn, read_row}
 use Rattle.trace.specs.Written.{triple_texts, row_text}
@@ -33,7 +33,7 @@ sample0 =
 abbrev lent : List ℕ
 lent = replicate 54 9
 
-row_is_read : read_row row0 (Label 0) lent ≡ (gives (0, 1000), sample0)
+row_is_read : read_row row0 (Some 0) lent ≡ (gives (0, 1000), sample0)
 unfolding fields_of triples_of form_of in_turn read_row digits_from number_of triple_of
 row_is_read = refl
 
@@ -66,7 +66,7 @@ abbrev head : List ℕ → List ℕ
 head h = h ++ six ++ six ++ six
 
 refused_rows :
-    map (λ (row : List ℕ). read_row row (Label 0) lent)
+    map (λ (row : List ℕ). read_row row (Some 0) lent)
     ([] ∷ head (ascii "0,5") ∷ (ascii "0,5" ++ six ++ six) ∷ (head (ascii "0,5") ++ ascii ",000") ∷ (head (ascii "0,5") ++ ascii ",") ∷
     head (ascii "00,5") ∷ head (ascii "4294967296,5") ∷ head (ascii "1,+5") ∷ head (ascii "1,5") ∷ [])
     ≡ (refuses 5, lent) ∷ (gives (0, 5), replicate 54 0) ∷ (refuses 5, lent) ∷ (refuses 5, lent) ∷ (refuses 5, lent) ∷
@@ -76,8 +76,8 @@ refused_rows = refl
 
 -- In the order 8, 6, 5, 7: a row of 513 bytes and one of 512, a buffer of 53 and one of 55, and no label that is due.
 in_order :
-    read_row (replicate 513 49) (Label 0) lent ∷ read_row (replicate 512 49) (Label 0) lent ∷
-    read_row (replicate 513 49) (Label 0) (replicate 53 9) ∷ read_row row0 (Label 0) (replicate 55 9) ∷ read_row row0 Nothing lent ∷ []
+    read_row (replicate 513 49) (Some 0) lent ∷ read_row (replicate 512 49) (Some 0) lent ∷
+    read_row (replicate 513 49) (Some 0) (replicate 53 9) ∷ read_row row0 (Some 0) (replicate 55 9) ∷ read_row row0 None lent ∷ []
     ≡ (refuses 6, lent) ∷ (refuses 5, lent) ∷ (refuses 8, replicate 53 9) ∷ (refuses 8, replicate 55 9) ∷ (refuses 7, lent) ∷ []
 unfolding fields_of triples_of form_of in_turn read_row digits_from number_of triple_of
 in_order = refl

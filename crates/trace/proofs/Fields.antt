@@ -1,65 +1,42 @@
 -- A field is told from what follows it byte by byte: each byte that is no comma belongs to it, and a comma or the end stops it.
 -- Assumes nothing.
-use mathlib.Core.Path.{◌≡◌, refl, sym, ◌∙◌, ap, subst}
+use mathlib.Core.Path.{◌≡◌, refl, sym, ◌∙◌, ap}
 use mathlib.Core.Bool.{Bool, true, false, cond}
 use mathlib.Core.Logic.{◌⊎◌, inl, inr}
-use mathlib.Core.List.{List, [], ◌∷◌, ◌++◌, append_assoc, append-nil}
+use mathlib.Core.List.{List, [], ◌∷◌}
 use Prim.Native.Nat.{ℕ, suc, ◌+◌, ◌-◌, ◌<◌, ◌≤◌, min}
 use native.Mathlib.Omega.{arith}
 use native.Mathlib.Nat.{le_of_lt}
 use lib.Dec.{eqb, leb-suc-suc}
-use lib.ListN.{length, take, drop, get_or, drop_of_length-le, length-drop}
-use lib.Seq.{drop-cons, take-suc, take-nil, drop-length, get_or-drop, drop-drop}
-use borrow.Author.Tests.{eq-eqb, ne_eqb, le-leb, lt-leb}
+use lib.ListN.{length, take, drop, drop_of_length-le, length-drop}
+use lib.Seq.{take-length, drop-drop}
+use borrow.Author.Tests.{le-leb, lt-leb}
 use Rattle.common.specs.Answers.{Answer, gives, refuses}
 use Rattle.common.specs.Ascii.{comma}
+use Rattle.spans.specs.Bytes.{slice, index_of}
 use Rattle.trace.specs.Rows.{up_to_comma, field_part, on_first, fields_of, fields_from}
 use Rattle.trace.proofs.Cases.{at_most, refusal_gives_nothing}
 
--- The first k bytes of a text belong to its first field.
-abbrev pub Within : List ℕ → ℕ → Type 0
-Within s k = up_to_comma s ≡ take k s ++ up_to_comma (drop k s)
+-- The first field of a text is what stands in front of its first comma.
+pub in_front : (s : List ℕ) → take (index_of comma s) s ≡ up_to_comma s
+unfolding up_to_comma index_of
+in_front [] = refl
+in_front (b ∷ s) = by_test (eqb b comma) (in_front s) where
+  by_test : (t : Bool) → take (index_of comma s) s ≡ up_to_comma s → take (cond t 0 (suc (index_of comma s))) (b ∷ s) ≡ cond t [] (b ∷ up_to_comma s)
+  by_test true rest = refl
+  by_test false rest = ap (λ (t : List ℕ). b ∷ t) rest
 
--- None does to start with.
-pub starts : (row : List ℕ) (at : ℕ) → Within (drop at row) (at - at)
-starts row at = let e : 0 ≡ at - at = omega arith in subst (Within (drop at row)) e refl
-
--- One more, which is no comma.
-pub one_more : (s : List ℕ) (k : ℕ) → k < length s → (get_or s k 0 ≡ comma → ⊥) → Within s k → Within s (suc k)
-unfolding up_to_comma
-one_more s k h other before = before ∙ rw (drop-cons s k 0, take-suc s k 0) (simp (ne_eqb _ _ other, append_assoc))
-
--- The field ends at a comma.
-pub ends_at_comma : (s : List ℕ) (k : ℕ) → k < length s → get_or s k 0 ≡ comma → Within s k → up_to_comma s ≡ take k s
-unfolding up_to_comma
-ends_at_comma s k h here before = before ∙ rw (drop-cons s k 0) (simp (eq-eqb _ _ here, append-nil))
-
--- Or where the text does.
-pub ends_at_end : (s : List ℕ) (k : ℕ) → length s ≤ k → Within s k → up_to_comma s ≡ take k s
-unfolding up_to_comma
-ends_at_end s k h before = before ∙ rw (drop_of_length-le s h) (simp append-nil)
-
--- The same from a place `at` of a row on, up to `end`, as the code counts.
-module _ (row : List ℕ) (at end : ℕ) (from : at ≤ end) where
-  byte_at : get_or (drop at row) (end - at) 0 ≡ get_or row end 0
-  byte_at = get_or-drop at row (end - at) 0 ∙ ap (λ (n : ℕ). get_or row n 0) (omega arith)
-
-  pub passes : end < length row → (get_or row end 0 ≡ comma → ⊥) → Within (drop at row) (end - at) → Within (drop at row) (end + 1 - at)
-  passes h other before =
-      let e : suc (end - at) ≡ end + 1 - at = omega arith in
-      subst (Within (drop at row)) e
-      (one_more (drop at row) (end - at) (simp length-drop (omega arith)) (λ q. other (sym byte_at ∙ q)) before)
-
-  pub stops : end < length row → get_or row end 0 ≡ comma → Within (drop at row) (end - at) → take (end - at) (drop at row) ≡ up_to_comma (drop at row)
-  stops h here before = sym (ends_at_comma (drop at row) (end - at) (simp length-drop (omega arith)) (byte_at ∙ here) before)
-
-  pub runs_out : length row ≤ end → Within (drop at row) (end - at) → take (end - at) (drop at row) ≡ up_to_comma (drop at row)
-  runs_out h before = sym (ends_at_end (drop at row) (end - at) (simp length-drop (omega arith)) before)
-
--- Past the row's end the field is empty.
-pub past_end : (row : List ℕ) (at : ℕ) → length row < at → take (length row - length row) (drop (length row) row) ≡ up_to_comma (drop at row)
-unfolding up_to_comma
-past_end row at h = rw (drop-length, drop_of_length-le row (le_of_lt h), take-nil)
+-- So it is where the first comma from a place on is found; past the row's end it is empty.
+pub up_to : (row : List ℕ) (at start end : ℕ) → start ≡ min at (length row) → end ≡ start + index_of comma (slice start (length row) row)
+    → take (end - start) (drop start row) ≡ up_to_comma (drop at row)
+unfolding slice
+up_to row at start end from to =
+    let from_there : slice start (length row) row ≡ drop at row = ap (drop start) (take-length row) ∙ dropped (at_most at (length row)) in
+    let size : end - start ≡ index_of comma (drop at row) = omega (arith, to, ap (index_of comma) from_there) in
+    rw (size, dropped (at_most at (length row))) (in_front (drop at row)) where
+      dropped : (at ≤ length row) ⊎ (length row < at) → drop start row ≡ drop at row
+      dropped (inl q) = let e : start ≡ at = omega arith in rw e
+      dropped (inr q) = drop_of_length-le row (omega arith) ∙ sym (drop_of_length-le row (le_of_lt q))
 
 -- A part of the row by its place and its bytes.
 pub is_part : (place : ℕ × ℕ) (row : List ℕ) (at start : ℕ) {s : List ℕ} → start ≡ min at (length row) → s ≡ up_to_comma (drop at row)

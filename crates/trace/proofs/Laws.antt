@@ -8,12 +8,11 @@ use native.Mathlib.Omega.{arith}
 use lib.Dec.{ltb, eqb}
 use lib.ListN.{length, length-append}
 use borrow.Author.Tests.{eq-eqb, eqb-true}
+use Rattle.std.specs.Prelude.{Option, Some, None}
 use Rattle.common.specs.Answers.{Answer, gives, refuses}
 use Rattle.common.specs.Ascii.{joined_by_commas}
 use Rattle.common.specs.Decimal.{decimal}
 use Rattle.common.proofs.Decimals.{decimal_length}
-use Rattle.trace.specs.declared.Due.{Due}
-use Rattle.trace.specs.declared.Due.TheVariants.{Label, Nothing}
 use Rattle.trace.specs.Numbers.{greatest, number_of}
 use Rattle.trace.specs.Rows.{fields_of, triples_of, Parts, parts, form_of, in_turn, kept, longest_row, read_row}
 use Rattle.trace.specs.Header.{header_text, same_text}
@@ -65,11 +64,11 @@ row_form row l s bits f =
 
 -- A row of the form whose label is due is taken: its label and stamp are given, and the buffer holds its sample.
 pub a_row_of_the_form_is_taken : (row : List ℕ) (l s : ℕ) (bits buffer : List ℕ) → InForm row l s bits → length buffer ≡ 54
-    → read_row row (Label l) buffer ≡ (gives (l, s), bits)
+    → read_row row (Some l) buffer ≡ (gives (l, s), bits)
 unfolding in_turn
 a_row_of_the_form_is_taken row l s bits buffer f size =
-    by_form row (Label l) buffer {answer = gives (bears l s bits)} size (rw f.text (row_length l s bits f.label_fits f.stamp_fits))
-    (sym (row_form row l s bits f)) (simp (eq-eqb l l refl))
+    by_form row (Some l) buffer size (rw f.text (row_length l s bits f.label_fits f.stamp_fits)) (sym (row_form row l s bits f))
+    ∙ simp (eq-eqb l l refl)
 
 of_fields : (row : List ℕ) (p : Parts) (fs : List (List ℕ)) → row ≡ joined_by_commas fs → form_of fs ≡ gives p
     → InForm row p.label p.stamp p.sample
@@ -96,13 +95,13 @@ of_fields row p (f ∷ g ∷ ts) text h = by_parts (number_of f) (number_of g) (
   by_parts (refuses n) y z i j k e = refusal_gives_nothing e
 
 -- And what is taken is a row of the form whose label was due, read into a buffer of 54 bytes.
-pub what_is_taken_is_of_the_form : (row : List ℕ) (due : Due) (buffer : List ℕ) (l s : ℕ) (after : List ℕ)
+pub what_is_taken_is_of_the_form : (row : List ℕ) (due : Option ℕ) (buffer : List ℕ) (l s : ℕ) (after : List ℕ)
     → read_row row due buffer ≡ (gives (l, s), after) → TakenRight row due buffer l s after
 unfolding read_row in_turn
 what_is_taken_is_of_the_form row due buffer l s after h =
     by_tests (eqb (length buffer) 54) (ltb longest_row (length row)) refl h where
       by_label : (p : Parts) (d : ℕ) (t : Bool) → form_of (fields_of row) ≡ gives p → eqb p.label d ≡ t → length buffer ≡ 54
-          → kept (cond t (gives p) (refuses 7)) buffer ≡ (gives (l, s), after) → TakenRight row (Label d) buffer l s after
+          → kept (cond t (gives p) (refuses 7)) buffer ≡ (gives (l, s), after) → TakenRight row (Some d) buffer l s after
       by_label p d true form due size e =
           let head : ◌≡◌ {A = Answer (ℕ × ℕ)} (gives (p.label, p.stamp)) (gives (l, s)) = ap (λ x. x.0) e in
           let pair : ◌≡◌ {A = ℕ × ℕ} (p.label, p.stamp) (l, s) = cc in
@@ -111,16 +110,16 @@ what_is_taken_is_of_the_form row due buffer l s after h =
           let sample : p.sample ≡ after = ap (λ x. x.1) e in
           record {
             in_form = rw (← label, ← stamp, ← sample) (of_fields row p (fields_of row) (sym (joined_split row)) form);
-            was_due = ap Label (sym (eqb-true p.label d due) ∙ label);
+            was_due = ap (λ (n : ℕ). Some n) (sym (eqb-true p.label d due) ∙ label);
             room = size;
           }
       by_label p d false form due size e = refusal_gives_nothing (ap (λ x. x.0) e)
 
-      by_answer : (f : Answer Parts) (due : Due) → form_of (fields_of row) ≡ f → length buffer ≡ 54
+      by_answer : (f : Answer Parts) (due : Option ℕ) → form_of (fields_of row) ≡ f → length buffer ≡ 54
           → kept (in_turn f due) buffer ≡ (gives (l, s), after) → TakenRight row due buffer l s after
       by_answer (refuses n) due form size e = refusal_gives_nothing (ap (λ x. x.0) e)
-      by_answer (gives p) Nothing form size e = refusal_gives_nothing (ap (λ x. x.0) e)
-      by_answer (gives p) (Label d) form size e = by_label p d (eqb p.label d) form refl size e
+      by_answer (gives p) None form size e = refusal_gives_nothing (ap (λ x. x.0) e)
+      by_answer (gives p) (Some d) form size e = by_label p d (eqb p.label d) form refl size e
 
       by_tests : (x y : Bool) → eqb (length buffer) 54 ≡ x
           → ◌≡◌ {A = Answer (ℕ × ℕ) × List ℕ}

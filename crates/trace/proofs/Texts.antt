@@ -32,11 +32,3 @@ same_by_bytes [] [] = refl
 same_by_bytes [] (b ∷ t) = refl
 same_by_bytes (a ∷ s) [] = refl
 same_by_bytes (a ∷ s) (b ∷ t) = ap (λ rest. eqb a b && rest) (same_by_bytes s t)
-
--- An answer that is yes for equal texts and for no others says whether they are the same.
-pub as_same : (answer : Bool) (s t : List ℕ) → (answer ≡ true → s ≡ t) × (s ≡ t → answer ≡ true) → answer ≡ same_text s t
-as_same answer s t h = by_test answer (same_text s t) (λ e. rw (h.0 e) (same_self t)) (λ e. h.1 (same_is_equal s t e)) where
-  by_test : (x y : Bool) → (x ≡ true → y ≡ true) → (y ≡ true → x ≡ true) → x ≡ y
-  by_test true y to from = sym (to refl)
-  by_test false true to from = from refl
-  by_test false false to from = refl

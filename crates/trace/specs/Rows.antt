@@ -1,10 +1,8 @@
 -- Document 01, "The trace and its program" and "Refusal numbers": what a trace row is, and what the row reader answers.
 -- Assumes nothing.
-use Rattle.std.specs.Prelude.{ℕ, zero, suc, ◌+◌, min, cond, not, List, [], ◌∷◌, ◌++◌, leb, ltb, eqb, length, drop}
+use Rattle.std.specs.Prelude.{ℕ, zero, suc, ◌+◌, min, cond, not, Option, Some, None, List, [], ◌∷◌, ◌++◌, leb, ltb, eqb, length, drop}
 use Rattle.common.specs.Answers.{Answer, gives, refuses}
 use Rattle.common.specs.Ascii.{comma}
-use Rattle.trace.specs.declared.Due.{Due}
-use Rattle.trace.specs.declared.Due.TheVariants.{Label, Nothing}
 use Rattle.trace.specs.Numbers.{number_of, triple_of}
 
 -- The bytes up to the next comma, or to the end.
@@ -63,16 +61,11 @@ form_of [] = refuses 5
 form_of (l ∷ []) = refuses 5
 form_of (l ∷ s ∷ ts) = parts (number_of l) (number_of s) (triples_of 18 ts)
 
--- A row's answer, with the sample that was read beside it: what the row bears, or the refusal.
-abbrev pub with_sample : Answer (ℕ × ℕ) → List ℕ → Answer Parts
-with_sample (gives head) bits = gives (record { label = head.0; stamp = head.1; sample = bits })
-with_sample (refuses n) bits = refuses n
-
 -- 7 where the label is not the one due; after 4,294,967,295 none is.
-unfoldable pub in_turn : Answer Parts → Due → Answer Parts
+unfoldable pub in_turn : Answer Parts → Option ℕ → Answer Parts
 in_turn (refuses n) due = refuses n
-in_turn (gives p) Nothing = refuses 7
-in_turn (gives p) (Label due) = cond (eqb p.label due) (gives p) (refuses 7)
+in_turn (gives p) None = refuses 7
+in_turn (gives p) (Some due) = cond (eqb p.label due) (gives p) (refuses 7)
 
 -- A row that is taken gives its label and its stamp, and leaves its sample in the buffer; a refusal leaves the buffer untouched.
 abbrev pub kept : Answer Parts → List ℕ → Answer (ℕ × ℕ) × List ℕ
@@ -84,7 +77,7 @@ abbrev pub longest_row : ℕ
 longest_row = 512
 
 -- "For a row: 8, 6, 5, then 7. The first that applies is given." The answer, and what the lent buffer then holds.
-unfoldable pub read_row : List ℕ → Due → List ℕ → Answer (ℕ × ℕ) × List ℕ
+unfoldable pub read_row : List ℕ → Option ℕ → List ℕ → Answer (ℕ × ℕ) × List ℕ
 read_row row due buffer =
     cond (not (eqb (length buffer) 54)) (refuses 8, buffer)
     (cond (ltb longest_row (length row)) (refuses 6, buffer)

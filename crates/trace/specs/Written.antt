@@ -1,10 +1,8 @@
 -- Document 01, "The trace and its program": a row of the form as it is written. The laws say that these rows and no others are taken.
 -- Assumes nothing.
-use Rattle.std.specs.Prelude.{ℕ, zero, suc, ◌+◌, ◌≤◌, ◌≡◌, List, [], ◌∷◌, length}
+use Rattle.std.specs.Prelude.{ℕ, zero, suc, ◌+◌, ◌≤◌, ◌≡◌, Option, Some, List, [], ◌∷◌, length}
 use Rattle.common.specs.Ascii.{joined_by_commas}
 use Rattle.common.specs.Decimal.{decimal, digit0}
-use Rattle.trace.specs.declared.Due.{Due}
-use Rattle.trace.specs.declared.Due.TheVariants.{Label}
 use Rattle.trace.specs.Numbers.{greatest}
 
 -- So many fields of three digits, one for each three channels.
@@ -34,7 +32,7 @@ pub record InForm (row : List ℕ) (label stamp : ℕ) (bits : List ℕ) : Type 
   pub text : row ≡ row_text label stamp bits
 
 -- What is taken is a row of the form whose label was due, read into a buffer of 54 bytes.
-pub record TakenRight (row : List ℕ) (due : Due) (buffer : List ℕ) (l s : ℕ) (after : List ℕ) : Type 0 where
+pub record TakenRight (row : List ℕ) (due : Option ℕ) (buffer : List ℕ) (l s : ℕ) (after : List ℕ) : Type 0 where
   pub in_form : InForm row l s after
-  pub was_due : due ≡ Label l
+  pub was_due : due ≡ Some l
   pub room : length buffer ≡ 54

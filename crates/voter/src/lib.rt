@@ -15,7 +15,7 @@ mod of_two;
 const THIRD: u8 = 3;
 
 // Which channels still count; `Nothing` for an invalid sensor.
-#[derive(Clone, Copy)]
+#[derive(Clone, Copy, PartialEq, Eq)]
 pub enum Channels {
     All,
     Without1,
@@ -25,8 +25,9 @@ pub enum Channels {
 }
 
 // A sensor: its channels that still count, the value held, the odd channel (1 to 3, or 0) and the count, 0 to 2: so many samples in
-// a row had that channel as the odd one or, with two valid, had the two differ. Any byte may stand in the last two.
-#[derive(Clone, Copy)]
+// a row had that channel as the odd one or, with two valid, had the two differ. Any byte may stand in the last two: an image bears them,
+// and `CountKept` of specs/Counts.antt speaks of the numbers.
+#[derive(Clone, Copy, PartialEq, Eq)]
 pub struct Voter {
     pub channels: Channels,
     pub held: bool,
@@ -36,6 +37,7 @@ pub struct Voter {
 
 impl Voter {
     // A sensor with all channels valid that holds a value.
+    #[tactic(auto, unfolding(crate::specs::Voting::fresh_with))]
     pub fn fresh(held: bool) -> Self
         ensures { result ≡ fresh_with held }
     {
@@ -43,11 +45,11 @@ impl Voter {
     }
 
     // One vote over the three channels.
+    #[tactic(auto, unfolding(crate::specs::Voting::voted, crate::specs::Voting::voted_by))]
     pub fn vote(self, one: bool, two: bool, three: bool) -> Self
         ensures { result ≡ voted self one two three }
     {
-        let channels = self.channels;
-        match channels {
+        match self.channels {
             Channels::All => of_three::vote(self, one, two, three),
             Channels::Without1 => of_two::vote(self, two, three),
             Channels::Without2 => of_two::vote(self, one, three),
@@ -57,6 +59,7 @@ impl Voter {
     }
 
     // The value held.
+    #[tactic(auto, unfolding(crate::specs::Voting::value_of))]
     pub fn value(self) -> bool
         ensures { result ≡ value_of self }
     {
@@ -64,17 +67,11 @@ impl Voter {
     }
 
     // Whether the sensor is invalid.
+    #[tactic(auto, unfolding(crate::specs::Voting::is_invalid))]
     pub fn invalid(self) -> bool
         ensures { result ≡ is_invalid self }
     {
-        let channels = self.channels;
-        match channels {
-            Channels::All => false,
-            Channels::Without1 => false,
-            Channels::Without2 => false,
-            Channels::Without3 => false,
-            Channels::Nothing => true,
-        }
+        self.channels == Channels::Nothing
     }
 
     // A sensor with these channels that still count, which holds this value, and no count runs.
@@ -91,11 +88,9 @@ impl Voter {
 }
 
 // The value of the majority of three channels.
+#[tactic(auto, unfolding(crate::specs::Voting::majority_of))]
 pub fn majority_of(one: bool, two: bool, three: bool) -> bool
     ensures { result ≡ majority_of one two three }
 {
-    if one == two {
-        return one;
-    }
-    three
+    if one == two { one } else { three }
 }

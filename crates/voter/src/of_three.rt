@@ -7,6 +7,7 @@ ghost use Rattle.voter.specs.declared.Channels.TheVariants.{All};
 use crate::{Channels, THIRD, Voter, majority_of};
 
 // A vote of a sensor whose channels are all valid.
+#[tactic(auto, unfolding(crate::specs::Voting::of_three))]
 pub(crate) fn vote(v: Voter, one: bool, two: bool, three: bool) -> Voter
     ensures { result ≡ of_three v one two three }
 {
@@ -14,6 +15,7 @@ pub(crate) fn vote(v: Voter, one: bool, two: bool, three: bool) -> Voter
 }
 
 // By the odd one and the majority's value.
+#[tactic(auto, unfolding(crate::specs::Voting::by_odd))]
 fn by_odd(v: Voter, odd: u8, value: bool) -> Voter
     ensures { result ≡ by_odd v odd value }
 {
@@ -41,18 +43,15 @@ fn all_valid(value: bool, odd: u8, count: u8) -> Voter
     }
 }
 
-// The odd one of three; 0 where they agree.
+// The odd one of three; 0 where they agree. (A number, as the field `odd` that it is held to.)
+#[tactic(auto, unfolding(crate::specs::Voting::odd_of))]
 fn odd_of(one: bool, two: bool, three: bool) -> u8
     ensures { result ≡ odd_of one two three }
 {
-    if one == two {
-        if two == three {
-            return 0;
-        }
-        return 3;
+    match (one == two, two == three) {
+        (true, true) => 0,
+        (true, false) => 3,
+        (false, true) => 1,
+        (false, false) => 2,
     }
-    if two == three {
-        return 1;
-    }
-    2
 }

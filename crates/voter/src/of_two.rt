@@ -6,19 +6,18 @@ ghost use Rattle.voter.specs.Voting.{of_two};
 use crate::{Channels, THIRD, Voter};
 
 // A vote of a sensor with a channel struck, over the other two.
+#[tactic(auto, unfolding(crate::specs::Voting::of_two))]
 pub(crate) fn vote(v: Voter, one: bool, two: bool) -> Voter
     ensures { result ≡ of_two v one two }
 {
-    let channels = v.channels;
     if one == two {
-        return Voter::uncounted(channels, one);
+        return Voter::uncounted(v.channels, one);
     }
     if v.count < THIRD - 1 {
         return Voter {
-            channels,
-            held: v.held,
             odd: 0,
             count: v.count + 1,
+            ..v
         };
     }
     Voter::uncounted(Channels::Nothing, v.held)

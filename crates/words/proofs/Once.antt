@@ -2,16 +2,16 @@
 -- system's too.
 -- (Whatever standard error is: `E` is its type.)
 -- Assumes nothing.
+use Prim.Native.Nat.{ℕ}
 use mathlib.Core.Path.{sym, ◌∙◌}
 use denote.Param.Laws.{Laws}
 use denote.RattleType.{RattleType}
-use mir.Syntax.{Dict}
+use mir.Syntax.{Dict, w64}
+use mir.Val.{Fits}
 use Rattle.std.specs.declared.io.traits.Write.{Ghosts}
 use Rattle.common.specs.OneAnswer.{OneAnswer}
-use Rattle.words.proofs.rooms.small.Kinds as small_kinds
-use Rattle.words.proofs.rooms.small.Reads as small_reads
-use Rattle.words.proofs.rooms.large.Kinds as large_kinds
-use Rattle.words.proofs.rooms.large.Reads as large_reads
+use Rattle.words.proofs.rooms.zeros.Kinds as zeros_kinds
+use Rattle.words.proofs.rooms.zeros.Reads as zeros_reads
 use Rattle.words.proofs.say.Kinds as say_kinds
 use Rattle.words.proofs.say.Reads as say_reads
 use Rattle.words.proofs.refused.Kinds as refused_kinds
@@ -31,8 +31,5 @@ pub nine_once : (E : RattleType) (laws : Laws E) (write : Ghosts E.Denot) (dict 
     → OneAnswer 3 (nine_kinds.ps E laws) (nine_kinds.r E laws) (nine_reads.Post E laws write dict)
 nine_once E laws write dict κs a x y s t p q = p ∙ sym q
 
-pub small_once : OneAnswer 0 small_kinds.ps small_kinds.r small_reads.Post
-small_once κs a x y s t p q = p.1 ∙ sym q.1
-
-pub large_once : OneAnswer 0 large_kinds.ps large_kinds.r large_reads.Post
-large_once κs a x y s t p q = p.1 ∙ sym q.1
+pub zeros_once : (N : ℕ) (fits : Fits w64 N) → OneAnswer 1 (zeros_kinds.ps N fits) (zeros_kinds.r N fits) (zeros_reads.Post N fits)
+zeros_once N fits κs a x y s t p q = p.1 ∙ sym q.1

@@ -17,11 +17,9 @@ pub fn count<S: Env>(system: &S, most: usize) -> usize
 }
 
 // Puts one of them at the front of a buffer, and answers how many bytes it has; none where there is no such word, or no room for it.
+// (`count` says how many there are; one that has no room is read as one of no bytes.)
 pub fn word<S: Env>(system: &S, i: usize, into: &mut [u8]) -> usize
     ensures { result ≤ length into.new }
 {
-    match system.arg(i, into) {
-        Ok(n) => n,
-        Err(_) => 0,
-    }
+    system.arg(i, into).unwrap_or(0)
 }

@@ -5,7 +5,7 @@
 ghost use Rattle.std.specs.Prelude.{false, ◌++◌, ◌≡◌, ◌≤◌, T, length};
 ghost use Rattle.common.specs.Ascii.{ascii};
 ghost use Rattle.common.specs.Decimal.{decimal};
-ghost use Rattle.texts.specs.Puts.{PutIfRoom};
+ghost use Rattle.texts.specs.Lines.{PutsIfRoom};
 ghost use Rattle.words.specs.Messages.{
   said_text,
   at_once,
@@ -18,6 +18,7 @@ ghost use Rattle.words.specs.Messages.{
 };
 
 use std::io::Write;
+use texts::Line;
 
 pub mod arguments;
 pub mod rooms;
@@ -40,19 +41,19 @@ pub struct Streams<R, W, E> {
 pub fn say<E: Write>(errors: &mut E, name: &[u8], what: &[u8]) -> bool
     ensures { result ≡ is_at_once name.now what.now }
 {
-    if AT_ONCE - AROUND < name.len() {
-        return say_in_pieces(errors, name, what);
+    if AT_ONCE - AROUND < name.len() + what.len() {
+        say_in_pieces(errors, name, what);
+        return false;
     }
-    if AT_ONCE - AROUND - name.len() < what.len() {
-        return say_in_pieces(errors, name, what);
-    }
-    let mut text = [0u8; AT_ONCE];
-    let end = put_said(&mut text, name, what);
-    let _ = errors.write_all(&text[..end]);
+    let mut room = [0u8; AT_ONCE];
+    let mut text = Line::new(&mut room);
+    put_said(&mut text, name, what);
+    let _ = errors.write_all(text.text());
     true
 }
 
-// Hands the first n bytes to `write`, and answers whether all of them were there and it took them. Where it did not, says so.
+// Hands the first n bytes to `write`, and answers whether all of them were there and it took them. Where it did not, says so. (n stands beside
+// the bytes, since the promises of `running` rest on the test that all of them are there.)
 pub fn put<R, W: Write, E: Write>(
     streams: &mut Streams<R, W, E>,
     name: &[u8],
@@ -71,119 +72,102 @@ pub fn put<R, W: Write, E: Write>(
     false
 }
 
-// The refusal that ended the reading of a trace; the line buffer is as the row that was refused left it. Answers as `say` does.
+// The refusal that ended the reading of a trace, by the number that `reading::Phase::Ended` bears; the line buffer is as the row that was
+// refused left it. Answers as `say` does.
 pub fn refused<E: Write>(errors: &mut E, name: &[u8], line: u64, refusal: u8, buffer: &[u8]) -> bool
     ensures { result ≡ is_at_once name.now (refused_text line refusal (has_lf buffer.now)) }
 {
-    let mut text = [0u8; 256];
-    let end = put_refused(&mut text, line, refusal, has_lf(buffer));
-    say(errors, name, &text[..end])
+    let mut room = [0u8; 256];
+    let mut text = Line::new(&mut room);
+    put_refused(&mut text, line, refusal, has_lf(buffer));
+    say(errors, name, text.text())
 }
 
 // Refusal 9 of a dump. Answers as `say` does.
 pub fn nine<E: Write>(errors: &mut E, name: &[u8], line: u64, rows: u64) -> bool
     ensures { result ≡ is_at_once name.now (nine_text line rows) }
 {
-    let mut text = [0u8; 128];
-    let end = put_nine(&mut text, line, rows);
-    say(errors, name, &text[..end])
+    let mut room = [0u8; 128];
+    let mut text = Line::new(&mut room);
+    put_nine(&mut text, line, rows);
+    say(errors, name, text.text())
 }
 
 // A line that is too long to be put together.
-fn say_in_pieces<E: Write>(errors: &mut E, name: &[u8], what: &[u8]) -> bool
-    ensures { result ≡ false }
-{
+fn say_in_pieces<E: Write>(errors: &mut E, name: &[u8], what: &[u8]) {
     let _ = errors.write_all(name);
     let _ = errors.write_all(b": ");
     let _ = errors.write_all(what);
     let _ = errors.write_all(b"\n");
-    false
 }
 
 // Whether a lone LF stands in the line buffer.
+#[tactic(auto, using(common::proofs::Searches::some_is_any), unfolding(crate::specs::Messages::has_lf))]
 fn has_lf(line: &[u8]) -> bool
     ensures { result ≡ has_lf line.now }
 {
-    let mut seen = false;
-    let mut i = 0;
-    while i < line.len() {
-        seen = seen | (line[i] == 10);
-        i += 1;
-    }
-    seen
+    line.contains(&b'\n')
 }
 
 // Puts a line at the front of the text.
-fn put_said(text: &mut [u8], name: &[u8], what: &[u8]) -> usize
-    ensures { PutIfRoom text.old 0 (said_text name.now what.now) text.new result }
+fn put_said(text: &mut Line, name: &[u8], what: &[u8])
+    ensures { PutsIfRoom (said_text name.now what.now) text.old text.new }
 {
-    let named = texts::put(text, 0, name);
-    let begun = texts::put(text, named, b": ");
-    let said = texts::put(text, begun, what);
-    texts::put(text, said, b"\n")
+    text.put(name);
+    text.put(b": ");
+    text.put(what);
+    text.put(b"\n");
 }
 
 // Puts the line and the number of a refusal, what it means and what there is to say of line 1.
-fn put_refused(text: &mut [u8], line: u64, refusal: u8, bare: bool) -> usize
-    ensures { PutIfRoom text.old 0 (refused_text line refusal bare) text.new result }
+fn put_refused(text: &mut Line, line: u64, refusal: u8, bare: bool)
+    ensures { PutsIfRoom (refused_text line refusal bare) text.old text.new }
 {
-    let numbered = put_numbers(text, line, refusal);
-    let meant = put_meaning(text, numbered, refusal);
+    put_numbers(text, line, refusal);
+    put_meaning(text, refusal);
     if line == 1 {
-        return put_hint(text, meant, bare);
+        put_hint(text, bare);
     }
-    meant
 }
 
 // Puts the line and the number of a refusal.
-fn put_numbers(text: &mut [u8], line: u64, refusal: u8) -> usize
-    ensures { PutIfRoom text.old 0 (ascii "line " ++ decimal line ++ ascii ", refusal " ++ decimal refusal) text.new result }
+fn put_numbers(text: &mut Line, line: u64, refusal: u8)
+    ensures { PutsIfRoom (ascii "line " ++ decimal line ++ ascii ", refusal " ++ decimal refusal) text.old text.new }
 {
-    let begun = texts::put(text, 0, b"line ");
-    let lined = texts::put_number(text, begun, line);
-    let named = texts::put(text, lined, b", refusal ");
-    texts::put_number(text, named, refusal as u64)
+    text.put(b"line ");
+    text.put_number(line);
+    text.put(b", refusal ");
+    text.put_number(refusal as u64);
 }
 
-// Puts what a refusal of a row means.
-fn put_meaning(text: &mut [u8], at: usize, refusal: u8) -> usize
-    ensures { PutIfRoom text.old at (meaning_text refusal) text.new result }
+// Puts what a refusal of a row means. (By the number that `Phase::Ended` bears.)
+fn put_meaning(text: &mut Line, refusal: u8)
+    ensures { PutsIfRoom (meaning_text refusal) text.old text.new }
 {
-    if refusal == 6 {
-        return texts::put(text, at, b": the row is over 512 bytes");
+    match refusal {
+        6 => text.put(b": the row is over 512 bytes"),
+        7 => text.put(b": the label is not the one due"),
+        _ => text.put(b": the row breaks the form of a trace"),
     }
-    if refusal == 7 {
-        return texts::put(text, at, b": the label is not the one due");
-    }
-    texts::put(text, at, b": the row breaks the form of a trace")
 }
 
 // Puts what there is to say of line 1.
-fn put_hint(text: &mut [u8], at: usize, bare: bool) -> usize
-    ensures { PutIfRoom text.old at (hint_text bare) text.new result }
+fn put_hint(text: &mut Line, bare: bool)
+    ensures { PutsIfRoom (hint_text bare) text.old text.new }
 {
-    let begun = texts::put(text, at, b"; a trace begins with its header");
+    text.put(b"; a trace begins with its header");
     if bare {
-        return texts::put(
-            text,
-            begun,
-            b", and its rows end in CRLF: here a bare LF was seen",
-        );
+        text.put(b", and its rows end in CRLF: here a bare LF was seen");
     }
-    begun
 }
 
 // Puts refusal 9 of a dump.
-fn put_nine(text: &mut [u8], line: u64, rows: u64) -> usize
-    ensures { PutIfRoom text.old 0 (nine_text line rows) text.new result }
+fn put_nine(text: &mut Line, line: u64, rows: u64)
+    ensures { PutsIfRoom (nine_text line rows) text.old text.new }
 {
-    let begun = texts::put(text, 0, b"line ");
-    let lined = texts::put_number(text, begun, line);
-    let named = texts::put(
-        text,
-        lined,
-        b", refusal 9: this is no dump that waves writes; ",
-    );
-    let counted = texts::put_number(text, named, rows);
-    texts::put(text, counted, b" rows written stand")
+    text.put(b"line ");
+    text.put_number(line);
+    text.put(b", refusal 9: this is no dump that waves writes; ");
+    text.put_number(rows);
+    text.put(b" rows written stand");
 }

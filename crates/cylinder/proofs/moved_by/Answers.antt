@@ -1,15 +1,18 @@
--- `cylinder::moved_by` meets its contract: each arm is one case of the rule.
+-- `cylinder::moved_by` meets its contract: a rate that is taken is at most the fastest, and a position on the stroke, so each fits.
 -- Assumes nothing.
+use mir.Facts.{Fits-below}
+use Rattle.cylinder.specs.Fractions.{stroke}
+use Rattle.cylinder.specs.Moves.{fastest}
+use Rattle.cylinder.proofs.Taken.{result_at_most}
 use Rattle.cylinder.proofs.moved_by.Goals as goal
 
-pub returns-in-Out : goal.returns-in-Out
-returns-in-Out c = rw c.in-Out.is c.moved_out.ensures
+pub overflow_cast-n : goal.overflow_cast-n
+overflow_cast-n c = Fits-below tt (result_at_most 1 fastest _ c.rate_parts.ensures c.ok_or.ensures.ok_part c.in_ok-n-in-Out.was)
 
-pub returns-in-In : goal.returns-in-In
-returns-in-In c = rw c.in-In.is c.moved_in.ensures
+pub overflow_cast-n-in-In : goal.overflow_cast-n-in-In
+overflow_cast-n-in-In c =
+    Fits-below tt (result_at_most 1 fastest _ c.rate_parts-in-In.ensures c.ok_or-in-In.ensures.ok_part c.in_ok-n-in-In.was)
 
-pub returns-in-Hold : goal.returns-in-Hold
-returns-in-Hold c = rw (c.in-Hold.is, c.at.ensures)
-
-pub returns-in-Stuck : goal.returns-in-Stuck
-returns-in-Stuck c = rw c.in-Stuck.is c.stuck_at.ensures
+pub overflow_cast-p : goal.overflow_cast-p
+overflow_cast-p c =
+    Fits-below tt (result_at_most 0 stroke _ c.parts_of.ensures c.ok_or-in-Stuck.ensures.ok_part c.in_ok-p-in-Stuck.was)

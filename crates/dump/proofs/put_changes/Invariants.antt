@@ -1,16 +1,10 @@
 -- `dump::put_changes` meets its contract: after i turns the changes of the first i wires stand there.
 -- Assumes nothing.
-use Prim.Native.Nat.{◌+◌, ◌-◌, ◌*◌, ◌≤◌}
-use mathlib.Core.Path.{◌≡◌}
-use lib.ListN.{length, take}
-use Rattle.texts.specs.Puts.{Put}
-use Rattle.dump.specs.Wires.{wires, first_code}
+use lib.ListN.{take}
+use Rattle.texts.specs.Lines.{PutsIfRoom}
+use Rattle.dump.specs.Wires.{first_code}
 use Rattle.dump.specs.Dumps.{changes_from}
 use Rattle.dump.proofs.put_changes.Given as goal
 
 abbrev pub invariant-loop-i : goal.invariant-loop-i
-invariant-loop-i l =
-    (l.i ≤ wires) × (l.next ≤ l.at + 3 * l.i) × (length l.line ≡ length l.initial.line) × Put l.initial.line l.at (changes_from first_code (take l.i l.olds) (take l.i l.news)) l.line l.next
-
-abbrev pub decreases-loop-i : goal.decreases-loop-i
-decreases-loop-i l = wires - l.i
+invariant-loop-i l = PutsIfRoom (changes_from first_code (take l.i l.olds) (take l.i l.news)) l.initial.line l.line

@@ -1,30 +1,32 @@
--- `image::is_blank` meets its contract: what has been looked at, with what is still to come, stays the answer.
+-- `image::is_blank` meets its contract: what is still to come stays the answer.
 -- Assumes nothing.
-use native.Mathlib.Omega.{arith}
-use mathlib.Core.Bool.{Bool, ◌&&◌, and_assoc, and-true}
-use mathlib.Core.Path.{refl, sym, ap, ◌∙◌}
-use Rattle.image.specs.Xdr.{items_in}
+use Rattle.std.proofs.Common.{sym, ap, ◌∙◌, arith, Bool, ◌&&◌}
+use borrow.Author.Tests.{eq-eqb}
+use Rattle.std.proofs.lemmas.Bool.{ne_eqb}
+use Rattle.std.specs.Slice.Iter.{chunks_exact_rest}
 use Rattle.image.specs.Faults.{is_blank}
-use Rattle.image.proofs.Fours.{items_length}
-use Rattle.image.proofs.Searching.{zero_turn, zero_end}
+use Rattle.image.proofs.Searching.{blank_turn, blank_end}
 use Rattle.image.proofs.is_blank.Goals as goal
 
-pub loop-k-init : goal.loop-k-init
-loop-k-init c = (omega arith, items_length _, refl)
-
-pub loop-k-preserved : goal.loop-k-preserved
-loop-k-preserved c =
-    let l = c.loop-k in
-    let a = c.args in (
-      omega arith,
-      l.invariant.1,
-      rw c.item.ensures
-          (l.invariant.2 ∙ ap (λ (b : Bool). l.all && b) (zero_turn (items_in a.image.now) l.k (omega (arith, l.invariant.1))) ∙ sym (and_assoc l.all _ _)),
+pub loop-bytes-preserved : goal.loop-bytes-preserved
+loop-bytes-preserved c =
+    let so = c.loop-bytes.invariant in
+    let steps = c.in-Some.ensures.steps in
+    let item = sym c.item.ensures ∙ c.if-item-ne0.false in (
+      omega (arith, steps.0, so.2),
+      tt,
+      steps.0 ∙ so.2,
+      so.3 ∙ ap is_blank steps.1.0 ∙ blank_turn _ _ (steps.1.1 ∙ so.2) ∙ ap (λ (b : Bool). b && is_blank (chunks_exact_rest c.next.new.self)) (eq-eqb _ _ item),
     )
 
+pub returns-then-item-ne0 : goal.returns-then-item-ne0
+returns-then-item-ne0 c =
+    let so = c.loop-bytes.invariant in
+    let steps = c.in-Some.ensures.steps in
+    sym (so.3 ∙ ap is_blank steps.1.0 ∙ blank_turn _ _ (steps.1.1 ∙ so.2) ∙ ap (λ (b : Bool). b && is_blank (chunks_exact_rest c.next.new.self)) (ne_eqb _ _ (λ e. c.if-item-ne0.true (c.item.ensures ∙ e))))
+
 pub returns : goal.returns
-unfolding is_blank
 returns c =
-    let l = c.loop-k in
-    let a = c.args in
-    sym (l.invariant.2 ∙ ap (λ (b : Bool). l.all && b) (zero_end (items_in a.image.now) l.k (omega (arith, l.invariant.1))) ∙ and-true l.all)
+    let so = c.loop-bytes.invariant in
+    let steps = c.in-None.ensures.steps in
+    sym (so.3 ∙ blank_end _ (omega (arith, steps.1.0, so.2)))

@@ -1,11 +1,8 @@
 -- `image::last_stamp` meets its contract: the first item, if it is there.
 -- Assumes nothing.
-use mathlib.Core.Path.{sym}
+use Rattle.std.proofs.Common.{sym}
 use Rattle.image.proofs.Reading.{no_item}
 use Rattle.image.proofs.last_stamp.Goals as goal
 
 pub returns-then-image-lt-ITEM : goal.returns-then-image-lt-ITEM
 returns-then-image-lt-ITEM c = sym (no_item _ c.if-image-lt-ITEM.true)
-
-pub returns : goal.returns
-returns c = c.item.ensures

@@ -7,7 +7,7 @@ use mathlib.Core.Path.{◌≡◌, sym, ◌∙◌}
 use native.Mathlib.Omega.{arith}
 use lib.ListN.{length, drop, get_or, length-set}
 use Rattle.lines.specs.Cuts.{cut_from}
-use Rattle.lines.proofs.Steps.{OfRow, here, gone, no_cr, no_lf, on_end, on_byte, on_over, held_at, break_at}
+use Rattle.lines.proofs.Steps.{OfRow, here, no_cr, no_lf, on_byte, on_over, held_at}
 use Rattle.lines.proofs.fill.Goals as goal
 use Rattle.lines.proofs.fill.Goals.{In-loop-at, Joined-b-eq-CR, then-b-eq-CR+else-next-part+else-part-next-eq-LF, else-b-eq-CR}
 
@@ -38,25 +38,12 @@ returns-then-next-part c =
     sym (turn (goal.at.returns-then-next-part c).In-loop-at
     ∙ held_at p l.line l.n (get_or p l.at 0) (l.at + 1) (omega arith) c.if-b-eq-CR.true)
 
-pub returns-then-part-next-eq-LF : goal.returns-then-part-next-eq-LF
-returns-then-part-next-eq-LF c =
-    let p = c.args.part.now in
-    let l = c.loop-at in
-    sym (turn (goal.at.returns-then-part-next-eq-LF c).In-loop-at
-    ∙ break_at p l.line l.n (get_or p l.at 0) (l.at + 1) (omega arith) c.if-b-eq-CR.true c.if-part-next-eq-LF.true)
-
 pub returns-then-n-line : goal.returns-then-n-line
 returns-then-n-line c =
     let p = c.args.part.now in
     let l = c.loop-at in
     sym (turn (goal.at.returns-then-n-line c).In-loop-at
     ∙ on_over (length p) l.line l.n (get_or p l.at 0) (drop (l.at + 1) p) (of_row (goal.at.returns-then-n-line c).Joined-b-eq-CR) (omega arith))
-
-pub until_cr-more-requires : goal.until_cr-more-requires
-until_cr-more-requires c = record { from_in_bounds = omega arith; len_in_bounds = simp length-set (omega arith) }
-
-pub overflow_add-n-in-loop-at : goal.overflow_add-n-in-loop-at
-overflow_add-n-in-loop-at c = omega (arith, simp length-set at c.until_cr-more.ensures.result_in_bounds_2)
 
 pub loop-at-preserved : goal.loop-at-preserved
 loop-at-preserved c =
@@ -70,9 +57,3 @@ loop-at-preserved c =
           (turn (goal.at.loop-at-preserved c).In-loop-at
           ∙ on_byte (length p) l.line l.n (get_or p l.at 0) (drop (l.at + 1) p) (of_row (goal.at.loop-at-preserved c).Joined-b-eq-CR) (omega arith)),
     )
-
-pub returns : goal.returns
-returns c =
-    let p = c.args.part.now in
-    let l = c.loop-at in
-    sym (l.invariant.2 ∙ rw (gone p l.at (omega arith)) (on_end (length p) l.line l.n))

@@ -2,7 +2,6 @@
 -- since no byte that was passed is a CR (`proofs/Steps.antt`). The measure is what is left in front of `to`.
 -- Assumes nothing.
 use Prim.Native.Nat.{ℕ, ◌+◌}
-use mathlib.Core.Path.{sym, ◌∙◌}
 use native.Mathlib.Omega.{arith}
 use Rattle.lines.proofs.Steps.{Searched, cr_here, cr_past}
 use Rattle.lines.proofs.next_cr.Goals as goal
@@ -21,9 +20,6 @@ on_2 c = cr_past (on_1 (goal.at.Else-part-i-eq-CR-2 c).Else-part-i-eq-CR) (omega
 on_3 : (c : Else-part-i-eq-CR-3) → On (goal.at.Else-part-i-eq-CR-3 c).In-loop-i 3
 on_3 c = cr_past (on_2 (goal.at.Else-part-i-eq-CR-3 c).Else-part-i-eq-CR-2) (omega arith) (omega arith) c.if-part-i-eq-CR-3.false
 
-pub returns-then-part-i-eq-CR : goal.returns-then-part-i-eq-CR
-returns-then-part-i-eq-CR c = let all = cr_here c.loop-i.invariant (omega arith) c.if-part-i-eq-CR.true in record { value = all.0; upper_bound = all.1 }
-
 pub returns-then-part-i-eq-CR-2 : goal.returns-then-part-i-eq-CR-2
 returns-then-part-i-eq-CR-2 c = let all = cr_here (on_1 (goal.at.returns-then-part-i-eq-CR-2 c).Else-part-i-eq-CR) (omega arith) c.if-part-i-eq-CR-2.true in record { value = all.0; upper_bound = all.1 }
 
@@ -35,6 +31,3 @@ returns-then-part-i-eq-CR-4 c = let all = cr_here (on_3 (goal.at.returns-then-pa
 
 pub loop-i-preserved : goal.loop-i-preserved
 loop-i-preserved c = cr_past (on_3 (goal.at.loop-i-preserved c).Else-part-i-eq-CR-3) (omega arith) (omega arith) c.if-part-i-eq-CR-4.false
-
-pub returns : goal.returns
-returns c = record { value = c.find.ensures.place ∙ sym c.loop-i.invariant.same; upper_bound = c.find.ensures.in_range }

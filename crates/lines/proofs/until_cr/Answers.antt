@@ -10,7 +10,7 @@ use Rattle.lines.proofs.until_cr.Goals as goal
 
 pub returns : goal.returns
 returns c = let a = c.args in
-    let m = c.within-most.result in
+    let m = c.min-most.result in
     let next = c.next_cr-end in
     let copy = c.copy in
     let e : copy.result ≡ next.result - a.from = copy.ensures.count ∙ simp (length-take, length-drop) (omega arith) in record {

@@ -1,17 +1,15 @@
--- `output::hand_over` meets its contract: `written` by its two cases.
+-- `output::hand_over` meets its contract: where there is no room, and where there is.
 -- Assumes nothing.
 use native.Mathlib.Omega.{arith}
-use borrow.Author.Tests.{lt-ltb, le-ltb}
-use Rattle.texts.proofs.Placing.{did_put, front_next, front_line}
+use borrow.Author.Tests.{le-ltb}
+use lib.ListN.{length}
+use lib.Seq.{take_all}
 use Rattle.output.specs.Rows.{written}
 use Rattle.output.proofs.hand_over.Goals as goal
-
-pub returns-then-out-text : goal.returns-then-out-text
-unfolding written
-returns-then-out-text c = simp (lt-ltb _ _ c.if-out-text.true)
 
 pub returns : goal.returns
 unfolding written
 returns c =
-    let one = did_put (omega arith) c.put.ensures in
-    simp (le-ltb _ _ c.if-out-text.false, front_next one, front_line one)
+    let text = c.args.text.now in
+    let out = c.args.out.now in
+    rw (le-ltb (length out) (length text) (omega arith), c.copy.ensures.count, c.copy.ensures.after, take_all (length text) text (omega arith))

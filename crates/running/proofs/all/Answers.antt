@@ -2,8 +2,8 @@
 -- Assumes nothing.
 use Rattle.std.proofs.Common.{◌≡◌, true, sym, refl, ◌∙◌, arith, rules}
 use Rattle.loops.specs.Progresses.{goes_on}
-use Rattle.running.specs.Works.{is_ended, all_of}
 use Rattle.loops.proofs.Laws.{goes_on_before_the_end}
+use Rattle.std.proofs.lemmas.Option.{IfSome_then}
 use Rattle.running.proofs.Along.{begins, stepped, finished}
 use Rattle.running.proofs.all.Goals as goal
 
@@ -12,40 +12,39 @@ loop-init g c = rw c.first.ensures (refl, refl, refl, omega arith, omega arith, 
 
 pub returns-then-not-goes_on : goal.returns-then-not-goes_on
 returns-then-not-goes_on g c =
-    λ t.
-    let at = c.loop in
-    let s = c.step-at in
-    let a = c.args in
-    let long = c.requires in
-    let kept =
-    stepped a.task a.put (all_of a.task a.start a.line.now) at.at s.result at.input s.new.input at.line
-    s.new.line at.out s.new.out (at.invariant.1 ∙ long.0) (omega (arith, at.invariant.2, long.1)) at.invariant.3
-    at.invariant.4 at.invariant.5 at.invariant.6 s.ensures in
+    let rule = g.T.Task.rule in
+    let laws = g.met.T.Task.right in
+    let comes = rule.all_of c.args.start c.args.line.now in
+    let before = c.loop in
+    let s = c.step.new in
+    let at = c.in_ok-at.at in
     let e = c.ended in
-    finished a.task a.put (all_of a.task a.start a.line.now) s.result e.result s.new.input s.new.line
-    e.new.line s.new.out e.new.out
-    (omega (arith, at.invariant.2, s.auto.out, long.1)) kept
-    (sym c.goes_on.ensures ∙ c.if-not-goes_on.true) (e.ensures t)
+    let kept =
+    stepped rule laws c.args.put comes before.at at before.input s.input before.line s.line before.out s.out
+    (before.invariant.1 ∙ c.requires.0) (omega (arith, before.invariant.2, c.requires.1)) before.invariant.3 before.invariant.4 before.invariant.5
+    before.invariant.6 c.in_ok-at.ensures in
+    IfSome_then e.result e.ensures
+    (λ ran last.
+    finished rule laws c.args.put comes at ran s.input s.line e.new.line s.out e.new.out (omega (arith, before.invariant.2, c.step.auto.out, c.requires.1))
+    kept (sym c.goes_on.ensures ∙ c.if-not-goes_on.true) last)
 
 pub loop-preserved : goal.loop-preserved
 loop-preserved g c =
-    let at = c.loop in
-    let s = c.step-at in
-    let a = c.args in
-    let long = c.requires in
+    let rule = g.T.Task.rule in
+    let comes = rule.all_of c.args.start c.args.line.now in
+    let before = c.loop in
+    let s = c.step.new in
+    let at = c.in_ok-at.at in
     let kept =
-    stepped a.task a.put (all_of a.task a.start a.line.now) at.at s.result at.input s.new.input at.line
-    s.new.line at.out s.new.out (at.invariant.1 ∙ long.0) (omega (arith, at.invariant.2, long.1)) at.invariant.3
-    at.invariant.4 at.invariant.5 at.invariant.6 s.ensures in
-    let on : goes_on s.result.progress (is_ended a.task s.result.work) ≡ true = sym c.goes_on.ensures ∙ c.if-not-goes_on.false in (
-      s.auto.input ∙ at.invariant.0,
-      s.auto.line ∙ at.invariant.1,
-      s.auto.out ∙ at.invariant.2,
+    stepped rule g.met.T.Task.right c.args.put comes before.at at before.input s.input before.line s.line before.out s.out
+    (before.invariant.1 ∙ c.requires.0) (omega (arith, before.invariant.2, c.requires.1)) before.invariant.3 before.invariant.4 before.invariant.5
+    before.invariant.6 c.in_ok-at.ensures in
+    let on : goes_on at.progress (rule.is_ended at.work) ≡ true = sym c.goes_on.ensures ∙ c.if-not-goes_on.false in (
+      c.step.auto.input ∙ before.invariant.0,
+      c.step.auto.line ∙ before.invariant.1,
+      c.step.auto.out ∙ before.invariant.2,
       kept.ordered,
       kept.inside,
-      goes_on_before_the_end s.result.progress (is_ended a.task s.result.work) on,
+      goes_on_before_the_end at.progress (rule.is_ended at.work) on,
       kept.so_far,
     )
-
-pub returns : goal.returns
-returns g c = λ t. absurd t

@@ -1,76 +1,40 @@
--- `trace::read_triples` meets its contract. The loop's invariant: the triples from `at` on are the channels kept so far, and then those
--- still due from `next` on.
+-- `trace::read_triples` meets its contract.
 -- Assumes nothing.
-use mathlib.Core.Path.{◌≡◌, sym, ◌∙◌, ap}
-use mathlib.Core.List.{[], ◌∷◌}
-use Prim.Native.Nat.{◌+◌, ◌≤◌, ◌*◌}
-use native.Mathlib.Omega.{arith}
-use lib.ListN.{length, take, drop, length-set, length-drop}
+use Rattle.std.proofs.Common.{◌≡◌, ℕ, ◌+◌, ◌-◌, ◌*◌, List, sym, add_assoc, length-take, length-append, ◌∙◌, ap, arith, length, take, drop, length-drop}
 use Rattle.common.specs.Answers.{gives}
-use Rattle.trace.specs.Answers.{triple_says}
 use Rattle.trace.specs.Numbers.{triple_of}
-use Rattle.trace.specs.Rows.{up_to_comma, fields_from, triples_of}
-use Rattle.trace.proofs.Fields.{field_length}
-use Rattle.trace.proofs.Triples.{triple_within, joined_nil, turn_refused, turn_taken, all_taken}
-use borrow.Author.Rules.{rules}
+use Rattle.trace.specs.Rows.{up_to_comma}
+use Rattle.trace.proofs.Triples.{turn_taken, all_taken, one_too_many}
 use Rattle.trace.proofs.read_triples.Goals as goal
-use Rattle.trace.proofs.read_triples.Goals.{In-Channels}
+use Rattle.trace.proofs.read_triples.Goals.{In-Some, After-field-part}
 
--- Where a triple is taken, the part that was read is the field at `next`.
-part : (c : In-Channels)
-    → c.field-part.result.now ≡ up_to_comma (drop c.loop-i.next c.args.row.now)
+-- The part that was read is the field at `next`.
+part : (c : After-field-part) → c.field-part.result.now ≡ up_to_comma (drop c.loop-i.next c.args.row.now)
 part c = ap (λ p. p.1) c.field-part.ensures
 
--- Its channels are the field's.
-triple : (c : In-Channels)
-    → gives (c.in-Channels.a ∷ c.in-Channels.b ∷ c.in-Channels.c ∷ [])
-    ≡ triple_of (up_to_comma (drop c.loop-i.next c.args.row.now))
-triple c = ap triple_says (sym c.in-Channels.is) ∙ c.read_triple.ensures ∙ ap triple_of (part c)
-
--- And it ends within the row.
-ends_within : (c : In-Channels)
-    → c.loop-i.next + length c.field-part.result.now ≤ length c.args.row.now
-ends_within c =
-    let row = c.args.row.now in
-    let next = c.loop-i.next in
-    omega (arith, triple_within row next (triple c), field_length (drop next row), length-drop next row, ap length (part c))
-
-pub loop-i-init : goal.loop-i-init
-loop-i-init c = (search rules, omega arith, joined_nil (triples_of 18 (fields_from c.args.row.now c.args.at)))
-
-pub returns-in_default : goal.returns-in_default
-returns-in_default c =
-    let a = c.args in
-    let l = c.loop-i in
-    sym
-    (l.invariant.2
-    ∙ turn_refused a.row.now l.next l.i (omega arith) (take (3 * l.i) l.channels)
-    (ap triple_says (sym c.in_default.is) ∙ c.read_triple.ensures ∙ ap triple_of (ap (λ p. p.1) c.field-part.ensures)))
-
-pub bounds-channels-i-in-loop-i : goal.bounds-channels-i-in-loop-i
-bounds-channels-i-in-loop-i c = simp length-set (omega arith)
-
-pub bounds-channels-i-in-loop-i-2 : goal.bounds-channels-i-in-loop-i-2
-bounds-channels-i-in-loop-i-2 c = simp length-set (omega arith)
-
-pub overflow_add-next : goal.overflow_add-next
-overflow_add-next c = record { fits = omega (arith, ends_within (goal.at.overflow_add-next c).In-Channels) }
-
-pub overflow_add-next-in-loop-i : goal.overflow_add-next-in-loop-i
-overflow_add-next-in-loop-i c = record { fits = omega (arith, ends_within (goal.at.overflow_add-next-in-loop-i c).In-Channels) }
+triple : (c : In-Some) → gives c.in-Some.bits ≡ triple_of (up_to_comma (drop c.loop-i.next c.args.row.now))
+triple c = c.in-Some.ensures ∙ ap triple_of (part (goal.at.In-Some c).After-field-part)
 
 pub loop-i-preserved : goal.loop-i-preserved
 loop-i-preserved c =
-    let a = c.args in
-    let l = c.loop-i in (
-      simp length-set l.invariant.0,
-      omega arith,
-      l.invariant.2 ∙ rw (part (goal.at.loop-i-preserved c).In-Channels) (turn_taken a.row.now l.next l.i (omega arith) l.channels _ _ _ l.invariant.0 (triple (goal.at.loop-i-preserved c).In-Channels)),
-    )
+    let l = c.loop-i in
+    let copy = c.copy_from_slice in
+    let at = goal.at.loop-i-preserved c in
+    let three : length copy.new.self ≡ 3 = copy.ensures.len ∙ simp (length-take, length-drop) (omega arith) in
+    record {
+      whole = simp (length-append, length-take, length-drop) (omega arith);
+      so_far =
+          l.invariant.so_far
+          ∙ turn_taken c.args.row.now l.next l.i c.loop-i-test.true l.channels copy.new.self (3 * l.i + 3 - 3 * l.i) l.invariant.whole three (ap (λ (b : List ℕ). gives b) copy.ensures.after ∙ triple at.In-Some)
+          ∙ rw (← part at.After-field-part) (simp add_assoc);
+    }
+
+pub returns-then-next-row : goal.returns-then-next-row
+returns-then-next-row c =
+    let all : c.loop-i.i ≡ 18 = omega arith in
+    sym (c.loop-i.invariant.so_far ∙ rw all (one_too_many c.args.row.now c.loop-i.next (take 54 c.loop-i.channels) c.if-next-row.true))
 
 pub returns : goal.returns
 returns c =
-    let a = c.args in
-    let l = c.loop-i in
-    let all : l.i ≡ 18 = omega arith in
-    all_taken a.row.now l.next l.channels l.invariant.0 ∙ sym (l.invariant.2 ∙ rw all)
+    let all : c.loop-i.i ≡ 18 = omega arith in
+    sym (c.loop-i.invariant.so_far ∙ rw all (all_taken c.args.row.now c.loop-i.next c.loop-i.channels c.loop-i.invariant.whole c.if-next-row.false))

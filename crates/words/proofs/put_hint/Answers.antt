@@ -2,16 +2,16 @@
 -- Assumes nothing.
 use mathlib.Core.List.{append-nil}
 use mathlib.Core.Path.{sym}
-use Rattle.texts.proofs.Pieces.{same, put, and}
+use Rattle.texts.proofs.Lines.{same, put, and}
 use Rattle.words.specs.Messages.{hint_text}
 use Rattle.words.proofs.put_hint.Goals as goal
 
 pub returns-then-bare : goal.returns-then-bare
 unfolding hint_text
 returns-then-bare c =
-    rw c.if-bare.true (and (put c.put-begun.ensures) (put c.put.ensures))
+    rw c.if-bare.true (and (put c.put.ensures) (put c.put-then-bare.ensures))
 
-pub returns : goal.returns
+pub returns-else-bare : goal.returns-else-bare
 unfolding hint_text
-returns c =
-    rw c.if-bare.false (same (sym (append-nil _)) (put c.put-begun.ensures))
+returns-else-bare c =
+    rw c.if-bare.false (same (sym (append-nil _)) (put c.put.ensures))

@@ -1,21 +1,20 @@
 -- `words::put_meaning` meets its contract: by the refusal.
 -- Assumes nothing.
-use borrow.Author.Tests.{eq-eqb, ne_eqb}
-use Rattle.texts.proofs.Pieces.{put}
+use borrow.Author.Rules.{rules}
+use borrow.Author.Tests.{ne_eqb}
+use Rattle.texts.proofs.Lines.{put}
 use Rattle.words.specs.Messages.{meaning_text}
 use Rattle.words.proofs.put_meaning.Goals as goal
 
-pub returns-then-refusal-eq6 : goal.returns-then-refusal-eq6
+pub returns-in-6 : goal.returns-in-6
 unfolding meaning_text
-returns-then-refusal-eq6 c =
-    rw (eq-eqb _ _ c.if-refusal-eq6.true) (put c.put.ensures)
+returns-in-6 c = rw c.in-6.is (put c.put.ensures)
 
-pub returns-then-refusal-eq7 : goal.returns-then-refusal-eq7
+pub returns-in-7 : goal.returns-in-7
 unfolding meaning_text
-returns-then-refusal-eq7 c =
-    rw (ne_eqb _ _ c.if-refusal-eq6.false, eq-eqb _ _ c.if-refusal-eq7.true) (put c.put-then-refusal-eq7.ensures)
+returns-in-7 c = rw c.in-7.is (put c.put-in-7.ensures)
 
-pub returns : goal.returns
+pub returns-in_default : goal.returns-in_default
 unfolding meaning_text
-returns c =
-    rw (ne_eqb _ _ c.if-refusal-eq6.false, ne_eqb _ _ c.if-refusal-eq7.false) (put c.put-2.ensures)
+returns-in_default c =
+    rw (ne_eqb c.args.refusal 6 (search rules), ne_eqb c.args.refusal 7 (search rules)) (put c.put-in_default.ensures)

@@ -1,36 +1,18 @@
 -- `words::say` meets its contract: a line that is short enough is put together.
 -- Assumes nothing.
 use native.Mathlib.Omega.{arith}
-use mathlib.Core.Path.{sym, ◌∙◌}
-use lib.ListN.{length, length-take}
+use mathlib.Core.Path.{sym}
+use lib.ListN.{length}
 use borrow.Author.Tests.{le-leb, lt-leb}
 use Rattle.words.specs.Messages.{said_text, at_once, is_at_once}
 use Rattle.words.proofs.Sizes.{said_length}
 use Rattle.words.proofs.say.Goals as goal
 
-pub returns-then-name : goal.returns-then-name
-unfolding is_at_once
-returns-then-name g c =
-    let a = c.args in
-    c.say_in_pieces.ensures ∙ sym (lt-leb (length (said_text a.name.now a.what.now)) at_once (omega (arith, said_length a.name.now a.what.now)))
-
 pub returns-then-name-what : goal.returns-then-name-what
 unfolding is_at_once
 returns-then-name-what g c =
     let a = c.args in
-    c.say_in_pieces-then-name-what.ensures ∙ sym (lt-leb (length (said_text a.name.now a.what.now)) at_once (omega (arith, said_length a.name.now a.what.now)))
-
-pub slice_bounds-text-end : goal.slice_bounds-text-end
-slice_bounds-text-end g c =
-    let a = c.args in
-    let all = c.put_said-end.ensures (omega (arith, said_length a.name.now a.what.now)) in
-    omega (arith, all.place, said_length a.name.now a.what.now)
-
-pub slice_bounds-write_all-end : goal.slice_bounds-write_all-end
-slice_bounds-write_all-end g c =
-    let a = c.args in
-    let all = c.put_said-end.ensures (omega (arith, said_length a.name.now a.what.now)) in
-    simp length-take (omega (arith, all.place, said_length a.name.now a.what.now))
+    sym (lt-leb (length (said_text a.name.now a.what.now)) at_once (omega (arith, said_length a.name.now a.what.now)))
 
 pub returns : goal.returns
 unfolding is_at_once

@@ -1,13 +1,11 @@
 -- `chart::csv::put_place` meets its contract: the doors, and the gears, each with their number.
 -- Assumes nothing.
-use Rattle.common.specs.Ascii.{joined_by_commas}
-use Rattle.texts.proofs.Pieces.{put, and}
+use Rattle.chart.proofs.Fields.{place_text}
+use Rattle.texts.proofs.Lines.{same, and}
 use Rattle.chart.proofs.csv.put_place.Goals as goal
 
 pub returns : goal.returns
-unfolding joined_by_commas
 returns c =
-    let first = rw c.number.ensures at c.put_field-numbered.ensures in
-    let second = rw c.number-2.ensures at c.put_field.ensures in
-    and (put c.put-next.ensures)
-    (and (put c.put_doors-doored.ensures) (and first (and (put c.put-next-2.ensures) (and (put c.put_gears-geared.ensures) second))))
+    let doors = rw (c.doors_word.ensures, c.number.ensures) at c.put_numbered.ensures in
+    let gears = rw (c.gears_word.ensures, c.number-2.ensures) at c.put_numbered-2.ensures in
+    same (place_text c.args.place) (and doors gears)

@@ -1,21 +1,17 @@
 -- `chart::csv::put_table` meets its contract: where there is room for the text, and where there is none.
 -- Assumes nothing.
-use Prim.Native.Nat.{◌+◌, ◌≤◌}
-use native.Mathlib.Omega.{arith}
-use lib.ListN.{length}
-use Rattle.texts.proofs.Placing.{no_room, as_put}
-use Rattle.chart.specs.Csv.{csv_text}
+use Rattle.std.proofs.Common.{sym, ◌∙◌, arith}
+use borrow.Author.Tests.{leb-true, leb-false}
+use Rattle.texts.proofs.Lines.{no_room, as_put}
 use Rattle.chart.proofs.Lengths.{csv_length}
 use Rattle.chart.proofs.csv.put_table.Goals as goal
 
-pub returns-then-size-at : goal.returns-then-size-at
-returns-then-size-at c = no_room _ _ _ (omega (arith, csv_length))
+pub returns-then-has_room : goal.returns-then-has_room
+returns-then-has_room c =
+    let room = leb-true _ _ (sym c.has_room.ensures ∙ c.if-has_room.true) in
+    as_put (omega (arith, csv_length, room)) c.put_all.ensures
 
-pub returns-then-size-at-lt-LENGTH : goal.returns-then-size-at-lt-LENGTH
-returns-then-size-at-lt-LENGTH c = no_room _ _ _ (omega (arith, csv_length))
-
-pub returns : goal.returns
-returns c =
-    let begin = c.args in
-    let room : begin.at + length csv_text ≤ length begin.out.now = omega (arith, csv_length) in
-    as_put room (c.put_all.ensures room)
+pub returns-else-has_room : goal.returns-else-has_room
+returns-else-has_room c =
+    let room = leb-false _ _ (sym c.has_room.ensures ∙ c.if-has_room.false) in
+    no_room _ (omega (arith, csv_length, room))

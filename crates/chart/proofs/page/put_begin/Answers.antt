@@ -1,13 +1,13 @@
 -- `chart::page::put_begin` meets its contract: the class by whether they stay, and what stands around it.
 -- Assumes nothing.
-use Rattle.chart.specs.Parts.{parts}
+use Rattle.std.proofs.Common.{◌≡◌, cond, rules}
+use Rattle.chart.specs.Parts.{keeps_piece, moves_piece}
 use Rattle.chart.specs.Page.{part_begin}
-use Rattle.chart.proofs.Choices.{chosen}
-use Rattle.texts.proofs.Pieces.{same, and}
+use Rattle.texts.proofs.Lines.{same, put, and}
 use Rattle.chart.proofs.page.put_begin.Goals as goal
 
 pub returns : goal.returns
-unfolding part_begin parts
+unfolding part_begin
 returns c =
-    let word = same (chosen c.args.stays 16 17 c.either-class.ensures) c.put_part-classed.ensures in
-    and (and c.put_part-opened.ensures word) c.put_part.ensures
+    let class : c.if-stays.put.now ≡ cond c.args.stays keeps_piece moves_piece = search rules in
+    and (and (put c.put.ensures) (same class (put c.put-2.ensures))) (put c.put-3.ensures)

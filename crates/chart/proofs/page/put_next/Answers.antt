@@ -1,20 +1,23 @@
 -- `chart::page::put_next` meets its contract: that the place stays, or the doors and the gears.
 -- Assumes nothing.
-use Rattle.chart.specs.Parts.{parts}
+use Rattle.std.proofs.Common.{sym, ◌∙◌}
 use Rattle.chart.specs.Page.{parts_text, next_text}
-use Rattle.texts.proofs.Pieces.{put, and}
+use Rattle.chart.proofs.Differing.{same_doors, same_gears, same_place}
+use Rattle.texts.proofs.Lines.{same, put, and}
 use Rattle.chart.proofs.page.put_next.Goals as goal
 
-pub returns-then-kept : goal.returns-then-kept
-unfolding next_text parts
-returns-then-kept c =
-    rw (← c.compared-kept.ensures, c.if-kept.true) c.put_part.ensures
+pub returns-then-eq : goal.returns-then-eq
+unfolding next_text
+returns-then-eq c =
+    let stays = sym (same_place c.args.from c.args.to) ∙ sym c.eq.ensures ∙ c.if-eq.true in
+    rw stays (put c.put.ensures)
 
 pub returns : goal.returns
-unfolding next_text parts_text parts
+unfolding next_text parts_text
 returns c =
-    rw (← c.compared-kept.ensures, c.if-kept.false)
-    (and (and (and (and (and c.put_begin-begun.ensures (put c.put_doors-said.ensures)) c.put_part-ended.ensures)
-    c.put_begin-begun-2.ensures)
-    (put c.put_gears-said.ensures))
-    c.put_part-2.ensures)
+    let moves = sym (same_place c.args.from c.args.to) ∙ sym c.eq.ensures ∙ c.if-eq.false in
+    let doors = rw (c.eq-2.ensures, same_doors c.args.from c.args.to) at c.put_begin.ensures in
+    let gears = rw (c.eq-3.ensures, same_gears c.args.from c.args.to) at c.put_begin-2.ensures in
+    let doors_word = same c.doors_word.ensures (put c.put-2.ensures) in
+    let gears_word = same c.gears_word.ensures (put c.put-4.ensures) in
+    rw moves (and (and (and (and (and doors doors_word) (put c.put-3.ensures)) gears) gears_word) (put c.put-5.ensures))

@@ -1,6 +1,6 @@
 -- `commands::conversions::put_form` meets its contract: by the form.
 -- Assumes nothing.
-use Rattle.texts.proofs.Pieces.{put}
+use Rattle.texts.proofs.Lines.{put}
 use Rattle.commands.proofs.conversions.put_form.Goals as goal
 
 pub returns-in-New : goal.returns-in-New

@@ -1,8 +1,7 @@
 -- `commands::messages::put_error` meets its contract: the word, and the number.
 -- Assumes nothing.
-use Rattle.commands.proofs.Putting.{put, and}
+use Rattle.texts.proofs.Lines.{put, and}
 use Rattle.commands.proofs.messages.put_error.Goals as goal
 
 pub returns : goal.returns
-returns c =
-    and (put c.put-told.ensures) (put c.put_number.ensures)
+returns c = and (put c.put.ensures) (put c.put_number.ensures)

@@ -1,8 +1,8 @@
 -- `commands::messages::put_length` meets its contract: longer than an image, or shorter.
 -- Assumes nothing.
 use borrow.Author.Tests.{lt-ltb, le-ltb}
+use Rattle.texts.proofs.Lines.{put, and}
 use Rattle.commands.specs.Messages.{length_words}
-use Rattle.commands.proofs.Putting.{put, and}
 use Rattle.commands.proofs.messages.put_length.Goals as goal
 
 pub returns-then-read-gt-SIZE : goal.returns-then-read-gt-SIZE
@@ -13,4 +13,4 @@ returns-then-read-gt-SIZE c =
 pub returns : goal.returns
 unfolding length_words
 returns c =
-    rw (le-ltb _ _ c.if-read-gt-SIZE.false) (and (put c.put-told.ensures) (and (put c.put_number-counted.ensures) (put c.put-2.ensures)))
+    rw (le-ltb _ _ c.if-read-gt-SIZE.false) (and (put c.put-2.ensures) (and (put c.put_number.ensures) (put c.put-3.ensures)))

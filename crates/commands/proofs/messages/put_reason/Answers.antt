@@ -1,6 +1,6 @@
 -- `commands::messages::put_reason` meets its contract: each arm puts its own words.
 -- Assumes nothing.
-use Rattle.commands.proofs.Putting.{put}
+use Rattle.texts.proofs.Lines.{put}
 use Rattle.commands.proofs.messages.put_reason.Goals as goal
 
 pub returns-in-Missing : goal.returns-in-Missing

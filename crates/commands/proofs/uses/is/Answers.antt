@@ -1,7 +1,8 @@
--- `commands::uses::is` meets its contract: the kit's `same` compares them.
+-- `commands::uses::is` meets its contract: byte by byte.
 -- Assumes nothing.
-use Rattle.trace.proofs.Texts.{as_same}
+use Rattle.std.proofs.Common.{◌∙◌}
+use Rattle.trace.proofs.Texts.{same_by_bytes}
 use Rattle.commands.proofs.uses.is.Goals as goal
 
 pub returns : goal.returns
-returns c = as_same c.same.result c.args.word.now c.args.text.now c.same.ensures
+returns c = c.eq.ensures ∙ same_by_bytes c.args.word.now c.args.text.now

@@ -11,4 +11,5 @@ use Rattle.commands.proofs.walls.csv.Goals as goal
 
 pub returns : goal.returns
 returns g c =
-    ap (λ (x : ℕ × List ℕ). x.0) c.put_table-put.ensures ∙ all_put _ csv_text (omega (arith, c.room_for_csv-out.ensures, csv_length))
+    let put = rw c.new-text.ensures at c.put_table.ensures in
+    ap (λ (x : ℕ × List ℕ). x.0) put.put ∙ all_put _ csv_text (omega (arith, c.zeros-out.ensures.long, csv_length))

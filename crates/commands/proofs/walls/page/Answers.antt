@@ -11,4 +11,5 @@ use Rattle.commands.proofs.walls.page.Goals as goal
 
 pub returns : goal.returns
 returns g c =
-    ap (λ (x : ℕ × List ℕ). x.0) c.put_page-put.ensures ∙ all_put _ page_text (omega (arith, c.large-out.ensures.long, page_length))
+    let put = rw c.new-text.ensures at c.put_page.ensures in
+    ap (λ (x : ℕ × List ℕ). x.0) put.put ∙ all_put _ page_text (omega (arith, c.zeros-out.ensures.long, page_length))

@@ -1,6 +1,6 @@
--- `controller::State::values` meets its contract: after i turns the first i values are the sensors'.
+-- `controller::State::values` meets its contract: before turn i the first i values are the sensors'.
 -- Assumes nothing.
-use Rattle.std.proofs.Common.{◌≡◌, ℕ, ◌-◌, ◌≤◌, Bool, false, List, replicate}
+use Rattle.std.proofs.Common.{◌≡◌, ℕ, Bool, false, List, replicate}
 use Rattle.common.proofs.Loops.{up_to}
 use Rattle.voter.specs.declared.Voter.{Voter}
 use Rattle.controller.specs.Votes.{sensor}
@@ -11,7 +11,4 @@ abbrev pub shows : List Voter → ℕ → Bool → Bool
 shows voters k b = sensor k voters
 
 abbrev pub invariant-loop-i : goal.invariant-loop-i
-invariant-loop-i l = (l.i ≤ 18) × (l.values ≡ up_to (shows l.voters) 0 l.i (replicate 18 false))
-
-abbrev pub decreases-loop-i : goal.decreases-loop-i
-decreases-loop-i l = 18 - l.i
+invariant-loop-i l = l.values ≡ up_to (shows l.fn.self.voters) 0 l.i (replicate 18 false)

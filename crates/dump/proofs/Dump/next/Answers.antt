@@ -1,44 +1,45 @@
--- `dump::Dump::next` meets its contract: where no time passed, where the time would reach 2 ^ 64, and where there is such a time.
+-- `dump::Dump::next` meets its contract: no room, no such time, and a moment.
 -- Assumes nothing.
-use Prim.Native.Nat.{ℕ, ◌+◌, ◌^◌, ◌≤◌}
 use native.Mathlib.Omega.{arith}
-use mathlib.Core.List.{List}
+use borrow.Author.Rules.{rules}
 use mathlib.Core.Path.{◌≡◌, ap, ◌∙◌}
-use borrow.Author.Tests.{eq-eqb, ne_eqb, le-leb, lt-leb}
-use lib.ListN.{length, length-take}
-use Rattle.dump.specs.declared.Wrote.{Wrote}
+use lib.ListN.{length}
+use lib.Seq.{take_all}
+use Rattle.texts.proofs.Lines.{told}
 use Rattle.dump.specs.Dumps.{moment_text}
-use Rattle.dump.specs.Writes.{placed, next_of}
-use Rattle.dump.proofs.Late.{as_long, none_written}
+use Rattle.dump.proofs.Late.{no_room, none_passed, too_late, no_moment, moment}
+use Rattle.dump.proofs.Lengths.{moment_length}
 use Rattle.dump.proofs.Dump.next.Goals as goal
+use Rattle.dump.proofs.Dump.next.Goals.{then-elapsed-eq0-via-then-elapsed-eq0, then-elapsed-eq0-via-else-elapsed-eq0+then-self-elapsed, After-text-moment}
+
+-- What is handed over is the moment.
+told_moment : (c : After-text-moment)
+    → c.text-moment.result.now ≡ moment_text c.args.self.values (record { time = c.saturating_add-time.result; values = c.args.values })
+told_moment c =
+    let wide : length c.args.values ≡ 26 = search rules in
+    let lent : length c.new-line.result.bytes.now ≡ 100 = search rules in
+    c.text-moment.ensures ∙ told c.put_moment.ensures (search rules) (omega (arith, lent, moment_length c.args.self.values (record { time = c.saturating_add-time.result; values = c.args.values }) wide))
+
+pub returns-then-out-moment : goal.returns-then-out-moment
+returns-then-out-moment c =
+    let a = c.args in
+    let long = ap length (told_moment (goal.at.returns-then-out-moment c).After-text-moment) in
+    no_room a.self a.elapsed a.values a.out.now c.saturating_add-time.result c.saturating_add-time.ensures (omega (arith, long))
 
 pub returns-then-elapsed-eq0 : goal.returns-then-elapsed-eq0
 returns-then-elapsed-eq0 c =
     let a = c.args in
-    let same : a.self.time ≡ a.self.time + a.elapsed = omega (arith, c.if-elapsed-eq0.true) in
-    ap (λ (r : Wrote). (r, a.out.now)) c.unwritten.ensures
-    ∙ none_written a.self a.elapsed a.values a.out.now a.self.time (rw (eq-eqb _ _ c.if-elapsed-eq0.true))
-    (ap (λ (t : ℕ). length (moment_text a.self.values (record { time = t; values = a.values }))) same)
-
-pub returns-then-self-elapsed : goal.returns-then-self-elapsed
-returns-then-self-elapsed c =
-    let a = c.args in
-    let late : 2 ^ 64 ≤ a.self.time + a.elapsed = omega (arith, c.if-self-elapsed.true) in
-    ap (λ (r : Wrote). (r, a.out.now)) c.unwritten-then-self-elapsed.ensures
-    ∙ none_written a.self a.elapsed a.values a.out.now 18446744073709551615
-    (rw (ne_eqb _ _ c.if-elapsed-eq0.false, le-leb (2 ^ 64) (a.self.time + a.elapsed) late))
-    (as_long a.self.values a.values 18446744073709551615 (a.self.time + a.elapsed) (omega arith) (omega arith))
-
-pub slice_bounds-hand_over-end : goal.slice_bounds-hand_over-end
-slice_bounds-hand_over-end c = simp length-take (omega arith)
+    let long = ap length (told_moment (goal.at.returns-then-elapsed-eq0 c).After-text-moment) in
+    no_moment a.self a.elapsed a.values a.out.now c.saturating_add-time.result c.saturating_add-time.ensures (omega (arith, long))
+    (elim c.then-elapsed-eq0.branch [
+      | then-elapsed-eq0-via-then-elapsed-eq0 w ↦ none_passed a.self a.elapsed w.if-elapsed-eq0.true
+      | then-elapsed-eq0-via-else-elapsed-eq0+then-self-elapsed w ↦ too_late a.self a.elapsed (omega arith)
+    ])
 
 pub returns : goal.returns
-unfolding next_of placed
 returns c =
     let a = c.args in
-    simp (
-      ne_eqb _ _ c.if-elapsed-eq0.false,
-      lt-leb (2 ^ 64) (a.self.time + a.elapsed) (omega (arith, c.if-self-elapsed.false)),
-    )
-    (c.hand_over.ensures
-    ∙ ap (λ (t : List ℕ). placed a.self (record { time = a.self.time + a.elapsed; values = a.values }) t a.out.now) c.put_moment-end.ensures.1)
+    let same = told_moment (goal.at.returns c).After-text-moment in
+    let whole = take_all (length c.text-moment.result.now) c.text-moment.result.now (omega arith) in
+    rw (c.copy.ensures.count, c.copy.ensures.after, whole, same)
+    (moment a.self a.elapsed a.values a.out.now c.saturating_add-time.result c.saturating_add-time.ensures (omega (arith, ap length same)) c.if-elapsed-eq0.false (omega arith))

@@ -1,6 +1,6 @@
 -- `image::items::core_items` meets its contract: one item after the other.
 -- Assumes nothing.
-use Rattle.sensors.proofs.Mirrors.{byte_is_bit}
+use Rattle.common.proofs.Bits.{byte_is_bit}
 use Rattle.image.specs.Items.{order_items, orders_items, rest_items, core_items}
 use Rattle.image.proofs.items.core_items.Goals as goal
 

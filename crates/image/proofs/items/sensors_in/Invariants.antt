@@ -1,9 +1,6 @@
 -- `image::items::sensors_in` meets its contract: after i turns the first i sensors are those of the image.
 -- Assumes nothing.
-use Prim.Native.Nat.{ℕ, ◌-◌, ◌≤◌}
-use mathlib.Core.List.{List}
-use mathlib.Core.Path.{◌≡◌}
-use lib.ListN.{length, drop}
+use Rattle.std.proofs.Common.{◌≡◌, ℕ, List, length, drop}
 use lib.Seq.{paste}
 use Rattle.voter.specs.declared.Voter.{Voter}
 use Rattle.image.specs.Xdr.{items_in}
@@ -16,7 +13,4 @@ theirs image = sensors_in sensor_count (drop 1 (items_in image))
 
 abbrev pub invariant-loop-i : goal.invariant-loop-i
 invariant-loop-i l =
-    (l.i ≤ sensor_count) × (length l.initial.voters ≡ sensor_count) × (l.voters ≡ paste l.initial.voters 0 (theirs l.image) l.i)
-
-abbrev pub decreases-loop-i : goal.decreases-loop-i
-decreases-loop-i l = sensor_count - l.i
+    (length l.initial.voter-items ≡ sensor_count) × (length l.voter-items ≡ sensor_count) × (l.voter-items ≡ paste l.initial.voter-items 0 (theirs l.image) l.i)

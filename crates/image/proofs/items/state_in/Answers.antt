@@ -13,15 +13,12 @@ use Rattle.image.proofs.Ranged.{within_up_to}
 use Rattle.image.proofs.Fours.{items_length}
 use Rattle.image.proofs.items.state_in.Goals as goal
 
-pub sensors_in-voters-requires : goal.sensors_in-voters-requires
-sensors_in-voters-requires c = c.requires.0
-
 pub items-requires : goal.items-requires
 items-requires c = omega (arith, c.requires.0)
 
-pub core_in-core-requires : goal.core_in-core-requires
+pub core_in-requires : goal.core_in-requires
 unfolding sensors_tops core_tops tops
-core_in-core-requires c =
+core_in-requires c =
     let items = items_in c.args.image.now in
     let few = within_up_to tops items c.requires.1 (first_order + 13) (lit< tt) in
     let cause = get_or-take core_width (drop first_order items) 13 0 (lit< tt) ∙ get_or-drop first_order items 13 0 in
@@ -34,4 +31,4 @@ returns c =
     let long = c.requires.0 in
     let core = drop first_order (items_in image) in
     let whole = take_all core_width core (simp length-drop (omega (arith, items_length image))) in
-    rw (c.core_in-core.ensures, c.items.ensures, whole, c.sensors_in-voters.ensures)
+    rw (c.core_in.ensures, c.items.ensures, whole, c.sensors_in.ensures)

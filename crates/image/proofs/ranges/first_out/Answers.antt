@@ -30,25 +30,21 @@ module _ (image : List ℕ) (k item top : ℕ) (inside : k < item_count) (long :
   past h = turn ∙ ap (λ (t : Bool). cond t (suc (rest (k + 1))) 0) (le-leb item top h)
 
 pub loop-k-init : goal.loop-k-init
-loop-k-init c = (omega arith, omega (arith, items_length c.args.image.now), omega arith)
+loop-k-init c = (omega (arith, items_length c.args.new.now), omega arith)
 
 pub returns-then-top-item : goal.returns-then-top-item
 returns-then-top-item c =
     let l = c.loop-k in
-    let a = c.args in
-    omega (arith, l.invariant.2, out a.image.now l.k _ _ (omega arith) l.invariant.1 c.item.ensures c.top.ensures c.if-top-item.true)
+    (omega (arith, l.invariant.1, out c.args.new.now l.k _ _ (omega arith) l.invariant.0 c.item.ensures c.top.ensures c.if-top-item.true), omega arith)
 
 pub loop-k-preserved : goal.loop-k-preserved
 loop-k-preserved c =
-    let l = c.loop-k in
-    let a = c.args in (
-      omega arith,
-      l.invariant.1,
-      omega (arith, l.invariant.2, past a.image.now l.k _ _ (omega arith) l.invariant.1 c.item.ensures c.top.ensures c.if-top-item.false),
+    let l = c.loop-k in (
+      l.invariant.0,
+      omega (arith, l.invariant.1, past c.args.new.now l.k _ _ (omega arith) l.invariant.0 c.item.ensures c.top.ensures c.if-top-item.false),
     )
 
 pub returns : goal.returns
 returns c =
     let l = c.loop-k in
-    let a = c.args in
-    omega (arith, l.invariant.2, out_end tops (items_in a.image.now) l.k (omega (arith, tops_length)))
+    omega (arith, l.invariant.1, out_end tops (items_in c.args.new.now) l.k (omega (arith, tops_length)))

@@ -1,8 +1,6 @@
 -- `image::ranges::first_out` meets its contract: the items that were looked at are in their ranges, and are so many.
 -- Assumes nothing.
-use Prim.Native.Nat.{◌+◌, ◌-◌, ◌≤◌}
-use mathlib.Core.Path.{◌≡◌}
-use lib.ListN.{length, drop}
+use Rattle.std.proofs.Common.{◌≡◌, ◌+◌, length, drop}
 use Rattle.image.specs.Xdr.{items_in}
 use Rattle.image.specs.Items.{item_count, tops}
 use Rattle.image.specs.Faults.{first_out}
@@ -10,7 +8,4 @@ use Rattle.image.proofs.ranges.first_out.Given as goal
 
 abbrev pub invariant-loop-k : goal.invariant-loop-k
 invariant-loop-k l =
-    (l.k ≤ item_count) × (length (items_in l.image) ≡ item_count) × (first_out tops (items_in l.image) ≡ l.k + first_out (drop l.k tops) (drop l.k (items_in l.image)))
-
-abbrev pub decreases-loop-k : goal.decreases-loop-k
-decreases-loop-k l = item_count - l.k
+    (length (items_in l.new) ≡ item_count) × (first_out tops (items_in l.new) ≡ l.k + first_out (drop l.k tops) (drop l.k (items_in l.new)))

@@ -17,7 +17,7 @@ returns-then-k-eq0 c = rw c.if-k-eq0.true
 pub returns-then-k-lt-FIRST_ORDER : goal.returns-then-k-lt-FIRST_ORDER
 returns-then-k-lt-FIRST_ORDER c =
     let a = c.args in
-    ap (λ (items : List ℕ). get_or items ((a.k - 1) % items_per_sensor) 0) c.tops-sensor.ensures
+    ap (λ (items : List ℕ). get_or items ((a.k - 1) % items_per_sensor) 0) c.tops.ensures
     ∙ sensor_top a.k (omega (arith, c.if-k-eq0.false)) (omega arith)
 
 pub returns : goal.returns

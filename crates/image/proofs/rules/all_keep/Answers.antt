@@ -1,23 +1,15 @@
--- `image::rules::all_keep` meets its contract: what has been seen, with what is still to come, stays the answer.
+-- `image::rules::all_keep` meets its contract: an iterator's `all` is the rules'.
 -- Assumes nothing.
-use native.Mathlib.Omega.{arith}
-use mathlib.Core.Path.{refl, sym, ◌∙◌}
-use Rattle.common.proofs.Loops.{all_turn, all_end}
-use borrow.Author.Rules.{rules}
+use Rattle.std.proofs.Common.{rules, tests, sym, ◌∙◌, Bool, false, get_or}
+use Rattle.std.proofs.lemmas.Iterator.{YieldsList-from_slice}
+use Rattle.std.proofs.lemmas.Iterator.Search.{all_from_yields_List}
+use Rattle.common.proofs.Searches.{all_is_all}
+use Rattle.voter.specs.Counts.{count_rules}
+use Rattle.voter.specs.declared.Voter.{Voter}
 use Rattle.image.proofs.rules.all_keep.Goals as goal
-use Rattle.image.proofs.rules.all_keep.Invariants.{keeps}
-
-pub loop-i-init : goal.loop-i-init
-loop-i-init c = (search rules, search rules, refl)
-
-pub loop-i-preserved : goal.loop-i-preserved
-loop-i-preserved c =
-    let l = c.loop-i in
-    let a = c.args in
-    (omega arith, l.invariant.1, rw c.count_rules-rules.ensures (l.invariant.2 ∙ all_turn (keeps a.k) a.voters l.i _ l.kept (omega (arith, l.invariant.1))))
 
 pub returns : goal.returns
 returns c =
-    let l = c.loop-i in
-    let a = c.args in
-    sym (l.invariant.2 ∙ all_end (keeps a.k) a.voters l.i l.kept (omega (arith, l.invariant.1)))
+    let test : Voter → Bool = λ v. get_or (count_rules v) c.args.k false in
+    all_from_yields_List test _ _ c.all.result c.all.ensures.ran (YieldsList-from_slice c.args.voters cc) (λ x b q k. search (rules, tests))
+    ∙ sym (all_is_all test c.args.voters)

@@ -1,44 +1,18 @@
--- `image::rules::first_broken` meets its contract: the rules that were looked at are kept, and are so many.
+-- `image::rules::first_broken` meets its contract: the first test that fails.
 -- Assumes nothing.
-use Prim.Native.Nat.{ℕ, suc, ◌+◌, ◌<◌}
-use native.Mathlib.Omega.{arith}
-use mathlib.Core.Bool.{Bool, true, false, cond}
-use mathlib.Core.List.{List}
-use mathlib.Core.Path.{◌≡◌, ap, ◌∙◌}
-use lib.ListN.{length, get_or, drop}
-use Rattle.image.specs.Rules.{rule_count}
-use Rattle.image.specs.Faults.{first_broken}
-use Rattle.image.proofs.Searching.{broken_turn, broken_end}
-use borrow.Author.Rules.{rules}
+use Rattle.std.proofs.Common.{◌≡◌, not, rules, tests, ap, ◌∙◌, Option, ℕ}
+use mathlib.Core.Path.{subst⁻¹}
+use Rattle.std.specs.List.{position}
+use Rattle.std.proofs.lemmas.Iterator.{YieldsList-from_slice}
+use Rattle.std.proofs.lemmas.Iterator.Search.{position_from_yields_List}
+use Rattle.image.specs.Rules.{rule_count, rules as tests_of}
+use Rattle.image.specs.Faults.{first_broken, IsPlace}
+use Rattle.image.proofs.Faulty.{rule_found}
 use Rattle.image.proofs.rules.first_broken.Goals as goal
-
-module _ (tests : List Bool) (k : ℕ) (inside : k < length tests) (d : Bool) where
-  broken : get_or tests k d ≡ false → first_broken (drop k tests) ≡ 0
-  broken e = broken_turn tests k d inside ∙ ap (λ (t : Bool). cond t (suc (first_broken (drop (k + 1) tests))) 0) e
-
-  kept : get_or tests k d ≡ true → first_broken (drop k tests) ≡ suc (first_broken (drop (k + 1) tests))
-  kept e = broken_turn tests k d inside ∙ ap (λ (t : Bool). cond t (suc (first_broken (drop (k + 1) tests))) 0) e
-
-pub loop-k-init : goal.loop-k-init
-loop-k-init c = (omega arith, omega arith)
-
-pub returns-then-not-tests-k : goal.returns-then-not-tests-k
-returns-then-not-tests-k c =
-    let l = c.loop-k in
-    let long : length c.tests-tests.result ≡ rule_count = search rules in
-    let here = broken c.tests-tests.result l.k (omega (arith, long)) false c.if-not-tests-k.true in
-    let all : l.k ≡ first_broken c.tests-tests.result = omega (arith, l.invariant.1, here) in
-    all ∙ ap first_broken c.tests-tests.ensures
-
-pub loop-k-preserved : goal.loop-k-preserved
-loop-k-preserved c =
-    let l = c.loop-k in
-    let long : length c.tests-tests.result ≡ rule_count = search rules in
-    (omega arith, omega (arith, l.invariant.1, kept c.tests-tests.result l.k (omega (arith, long)) false c.if-not-tests-k.false))
 
 pub returns : goal.returns
 returns c =
-    let l = c.loop-k in
-    let long : length c.tests-tests.result ≡ rule_count = search rules in
-    let all : l.k ≡ first_broken c.tests-tests.result = omega (arith, l.invariant.1, broken_end c.tests-tests.result l.k (omega (arith, long))) in
-    all ∙ ap first_broken c.tests-tests.ensures
+    let found : c.position.result ≡ position not c.tests.result =
+    position_from_yields_List not _ _ c.position.result c.position.ensures.ran (YieldsList-from_slice c.tests.result cc) (λ x b q k. search (rules, tests)) in
+    let place : Option ℕ → Type 0 = IsPlace rule_count (first_broken (tests_of c.args.state)) in
+    subst⁻¹ place (found ∙ ap (position not) c.tests.ensures) (rule_found c.args.state)

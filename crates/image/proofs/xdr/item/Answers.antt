@@ -1,10 +1,8 @@
--- `image::xdr::item` meets its contract: four bytes, added up.
+-- `image::xdr::item` meets its contract: four bytes, most significant first.
 -- Assumes nothing.
-use native.Mathlib.Omega.{arith}
+use Rattle.std.proofs.Common.{◌∙◌}
 use Rattle.image.proofs.Reading.{item_read}
 use Rattle.image.proofs.xdr.item.Goals as goal
 
 pub returns : goal.returns
-returns c =
-    let a = c.args in
-    item_read a.k _ _ _ _ _ (omega arith) c.byte.ensures.0 c.byte-2.ensures.0 c.byte-3.ensures.0 c.byte-4.ensures.0
+returns c = c.from_be_bytes.ensures ∙ item_read c.args.k c.args.image.now c.requires

@@ -1,9 +1,8 @@
 -- `joined::drawings::draw` meets its contract: after i turns the floats of the first i cylinders stand in front, and the rest is as it was.
 -- Assumes nothing.
-use Rattle.std.proofs.Common.{◌≡◌, ◌+◌, ◌*◌, ◌≤◌, length, refl, arith, length-set, rules, lt-ltb}
+use Rattle.std.proofs.Common.{◌≡◌, ◌+◌, ◌*◌, ◌≤◌, length, refl, arith, lt-ltb}
 use Rattle.joined.specs.Drawn.{floats_of, drawn_of}
 use Rattle.joined.proofs.Drawing.{drawn_next, drawn_rest, drawn_all}
-use borrow.Author.Rules.{rules}
 use Rattle.joined.proofs.drawings.draw.Goals as goal
 
 pub returns-then-out-lt-FLOATS_OF_SIX : goal.returns-then-out-lt-FLOATS_OF_SIX
@@ -12,21 +11,15 @@ returns-then-out-lt-FLOATS_OF_SIX c = simp (lt-ltb _ _ c.if-out-lt-FLOATS_OF_SIX
 
 pub loop-i-init : goal.loop-i-init
 unfolding floats_of
-loop-i-init c = (search rules, search rules, refl, refl, refl)
-
-pub bounds-out-at-in-loop-i : goal.bounds-out-at-in-loop-i
-bounds-out-at-in-loop-i c = simp length-set (omega arith)
+loop-i-init c = (refl, refl)
 
 pub loop-i-preserved : goal.loop-i-preserved
 loop-i-preserved c =
     let at = c.loop-i in
     let a = c.args in
     let room : 2 * at.i + 2 ≤ length at.out = omega arith in (
-      omega arith,
-      at.invariant.1,
-      simp length-set at.invariant.2,
-      drawn_next a.cylinders a.out.now at.out at.i _ room _ (omega arith) refl at.invariant.3,
-      drawn_rest a.cylinders a.out.now at.out at.i _ room at.invariant.4,
+      drawn_next a.cylinders a.out.now at.out at.i _ room _ (omega arith) refl at.invariant.0,
+      drawn_rest a.cylinders a.out.now at.out at.i _ room at.invariant.1,
     )
 
 pub returns : goal.returns
@@ -34,4 +27,4 @@ returns c =
     let a = c.args in
     let at = c.loop-i in
     let all : at.i ≡ 6 = omega arith in
-    drawn_all a.cylinders a.out.now at.out at.i all at.invariant.1 c.if-out-lt-FLOATS_OF_SIX.false at.invariant.3 at.invariant.4
+    drawn_all a.cylinders a.out.now at.out at.i all (omega arith) c.if-out-lt-FLOATS_OF_SIX.false at.invariant.0 at.invariant.1

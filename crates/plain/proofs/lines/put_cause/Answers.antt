@@ -8,7 +8,7 @@ use Rattle.plain.proofs.lines.put_cause.Goals as goal
 pub returns-then-k-lt-CAUSES : goal.returns-then-k-lt-CAUSES
 unfolding of_cause cause_words
 returns-then-k-lt-CAUSES c =
-    rw (lt-ltb _ _ c.if-k-lt-CAUSES.true) c.put_cause.ensures
+    rw (lt-ltb _ _ c.if-k-lt-CAUSES.true) (rw c.word.ensures at c.put.ensures)
 
 pub returns : goal.returns
 unfolding of_cause cause_words

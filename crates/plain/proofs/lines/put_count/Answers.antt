@@ -1,7 +1,7 @@
 -- `plain::lines::put_count` meets its contract: an odd channel, nothing, and two that differed.
 -- Assumes nothing.
 use borrow.Author.Tests.{eq-eqb, ne_eqb}
-use Rattle.texts.proofs.Pieces.{nothing, put, and}
+use Rattle.texts.proofs.Lines.{nothing, put, and}
 use Rattle.plain.specs.Plain.{of_count}
 use Rattle.plain.proofs.lines.put_count.Goals as goal
 
@@ -12,9 +12,9 @@ returns-then-odd-ne0 c =
 
 pub returns-then-count-eq0 : goal.returns-then-count-eq0
 unfolding of_count
-returns-then-count-eq0 c = rw (eq-eqb _ 0 c.if-odd-ne0.false, eq-eqb _ 0 c.if-count-eq0.true) (nothing _ _)
+returns-then-count-eq0 c = rw (eq-eqb _ 0 c.if-odd-ne0.false, eq-eqb _ 0 c.if-count-eq0.true) (nothing)
 
 pub returns : goal.returns
 unfolding of_count
 returns c =
-    rw (eq-eqb _ 0 c.if-odd-ne0.false, ne_eqb _ 0 c.if-count-eq0.false) (and (put c.put-told.ensures) c.put_samples.ensures)
+    rw (eq-eqb _ 0 c.if-odd-ne0.false, ne_eqb _ 0 c.if-count-eq0.false) (and (put c.put.ensures) c.put_samples.ensures)

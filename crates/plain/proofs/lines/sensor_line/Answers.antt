@@ -1,6 +1,6 @@
 -- `plain::lines::sensor_line` meets its contract: name, colon, voter, and what follows it.
 -- Assumes nothing.
-use Rattle.texts.proofs.Pieces.{same, put, and}
+use Rattle.texts.proofs.Lines.{same, put, and}
 use Rattle.plain.proofs.Texts.{sensor_text}
 use Rattle.plain.proofs.lines.sensor_line.Goals as goal
 
@@ -8,4 +8,4 @@ pub returns : goal.returns
 returns c =
     same (sensor_text _ c.args.v)
     (rw (← c.number.ensures)
-    (and (and (put c.put_sensor-named.ensures) (put c.put-told.ensures)) (and (put c.put_voter-voter.ensures) c.put_held.ensures)))
+    (and (and (same c.word.ensures (put c.put.ensures)) (put c.put-2.ensures)) (and (same c.word-2.ensures (put c.put-3.ensures)) c.put_held.ensures)))

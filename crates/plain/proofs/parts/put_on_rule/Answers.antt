@@ -1,10 +1,10 @@
 -- `plain::parts::put_on_rule` meets its contract: the order, and its rule.
 -- Assumes nothing.
-use Rattle.texts.proofs.Pieces.{put, and}
+use Rattle.texts.proofs.Lines.{same, put, and}
 use Rattle.plain.specs.Parts.{on_rule}
 use Rattle.plain.proofs.parts.put_on_rule.Goals as goal
 
 pub returns : goal.returns
 unfolding on_rule
 returns c =
-    and (put c.put_order-named.ensures) (put c.put.ensures)
+    and (same c.word.ensures (put c.put.ensures)) (put c.put-2.ensures)

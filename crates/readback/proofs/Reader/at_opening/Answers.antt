@@ -1,29 +1,32 @@
--- `readback::Reader::at_opening` meets its contract: past the text, and within it.
+-- `readback::Reader::at_opening` meets its contract: another byte, the last one, and one before it.
 -- Assumes nothing.
-use Prim.Native.Nat.{ℕ}
-use native.Mathlib.Omega.{arith}
-use mathlib.Core.List.{List}
-use mathlib.Core.Path.{ap, ◌∙◌}
-use lib.ListN.{length, get_or}
+use mathlib.Core.Path.{sym, ◌∙◌}
 use Rattle.dump.specs.Dumps.{opening_text, opening_length}
 use Rattle.dump.proofs.Lines.{opening_length_lem}
 use Rattle.readback.specs.declared.Place.TheVariants.{Opening, FirstValue}
 use Rattle.readback.specs.Bytes.{at_opening}
-use Rattle.readback.proofs.FixedTexts.{past_text, within_text}
+use Rattle.readback.proofs.FixedTexts.{another_byte, last_byte, next_byte}
 use Rattle.readback.proofs.Reader.at_opening.Goals as goal
 
-pub returns-then-at-ge-OPENING_LENGTH : goal.returns-then-at-ge-OPENING_LENGTH
+pub returns-in-None : goal.returns-in-None
 unfolding at_opening
-returns-then-at-ge-OPENING_LENGTH c =
+returns-in-None c =
     let a = c.args in
-    c.bad.ensures ∙ past_text opening_text Opening FirstValue a.self a.at a.b opening_length opening_length_lem c.if-at-ge-OPENING_LENGTH.true
+    c.bad.ensures
+    ∙ another_byte opening_text Opening FirstValue a.self a.at a.b opening_length opening_length_lem (rw c.requires at c.in-None.ensures)
 
-pub bounds-text-at : goal.bounds-text-at
-bounds-text-at c = omega (arith, ap length c.requires, opening_length_lem)
-
-pub returns : goal.returns
+pub returns-in-Some-eq995 : goal.returns-in-Some-eq995
 unfolding at_opening
-returns c =
+returns-in-Some-eq995 c =
     let a = c.args in
-    c.at_text.ensures
-    ∙ within_text opening_text Opening FirstValue a.self a.at a.b opening_length opening_length_lem _ (ap (λ (l : List ℕ). get_or l a.at 0) c.requires) c.if-at-ge-OPENING_LENGTH.false
+    let there = rw c.requires at c.in-Some-eq995.ensures in
+    c.moved.ensures
+    ∙ last_byte opening_text Opening FirstValue a.self a.at a.b opening_length opening_length_lem there.1 (sym c.in-Some-eq995.field-0-test ∙ there.0)
+
+pub returns-in-Some : goal.returns-in-Some
+unfolding at_opening
+returns-in-Some c =
+    let a = c.args in
+    let there = rw c.requires at c.in-Some.ensures in
+    c.moved-in-Some.ensures
+    ∙ next_byte opening_text Opening FirstValue a.self a.at a.b opening_length opening_length_lem c.in-Some.next there.1 there.0 c.in-Some.next-test.1

@@ -1,28 +1,16 @@
--- `sheets::Sheet::next` meets its contract: a 9, and anything else that the reader makes of the rest of the part.
+-- `sheets::Sheet::next` meets its contract: no more is used than there is.
 -- Assumes nothing.
-use Rattle.std.proofs.Common.{◌≡◌, ◌-◌, length, take, drop, replicate, refl, arith, length-drop, take_all, eq-eqb, ne_eqb}
-use Rattle.common.proofs.Pairs.{both}
+use Rattle.std.proofs.Common.{replicate, sym, refl, length-take-le}
 use Rattle.dump.specs.Wires.{wires}
-use Rattle.sheets.proofs.Filling.{within, as_turn}
+use Rattle.sheets.proofs.Filling.{within}
 use Rattle.sheets.proofs.Sheet.next.Goals as goal
 
-pub line_behind-line-requires : goal.line_behind-line-requires
-line_behind-line-requires c =
+pub slice_bounds-line_behind-end : goal.slice_bounds-line_behind-end
+slice_bounds-line_behind-end c =
     let a = c.args in
-    within a.self.reader (take (length a.part.now - a.from) (drop a.from a.part.now)) (replicate wires 0) refl c.take-took.ensures
+    sym (length-take-le c.in-Ok.took.used a.rest.now (within a.self.reader a.rest.now (replicate wires 0) refl c.in-Ok.ensures))
 
-pub returns-then-took-ne0 : goal.returns-then-took-ne0
-returns-then-took-ne0 c =
+pub slice_bounds-line_behind-end-in-Err : goal.slice_bounds-line_behind-end-in-Err
+slice_bounds-line_behind-end-in-Err c =
     let a = c.args in
-    let all = drop a.from a.part.now in
-    let rest = take (length a.part.now - a.from) all in
-    let same : rest ≡ all = take_all (length a.part.now - a.from) all (simp length-drop (omega arith)) in
-    as_turn a.self rest all (replicate wires 0) c.take-took.result _ same (both c.take-took.ensures).0 (simp (ne_eqb _ 0 c.if-took-ne0.true, c.new.ensures, c.line_behind-line.ensures))
-
-pub returns : goal.returns
-returns c =
-    let a = c.args in
-    let all = drop a.from a.part.now in
-    let rest = take (length a.part.now - a.from) all in
-    let same : rest ≡ all = take_all (length a.part.now - a.from) all (simp length-drop (omega arith)) in
-    as_turn a.self rest all (replicate wires 0) c.take-took.result _ same (both c.take-took.ensures).0 (simp (eq-eqb _ 0 c.if-took-ne0.false, c.line_behind-line.ensures))
+    sym (length-take-le c.in-Err.refused.used a.rest.now (within a.self.reader a.rest.now (replicate wires 0) refl c.in-Err.ensures))

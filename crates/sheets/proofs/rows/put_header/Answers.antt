@@ -1,13 +1,11 @@
--- `sheets::rows::put_header` meets its contract: the header's text is handed over.
+-- `sheets::rows::put_header` meets its contract: the header fits a line of its own, and is put.
 -- Assumes nothing.
-use Rattle.std.proofs.Common.{ap, ◌∙◌, arith, length-take}
-use Rattle.texts.specs.Puts.{put_of}
+use Rattle.std.proofs.Common.{◌≡◌, ◌∙◌, length, arith, rules}
+use Rattle.texts.proofs.Lines.{told, same_put}
+use Rattle.sheets.proofs.Fields.{header_length_lem}
 use Rattle.sheets.proofs.rows.put_header.Goals as goal
-
-pub slice_bounds-put-end : goal.slice_bounds-put-end
-slice_bounds-put-end c = simp length-take (omega arith)
 
 pub returns : goal.returns
 returns c =
-    let a = c.args in
-    c.put.ensures ∙ ap (put_of a.line.now a.at) c.header_text-end.ensures.1.text
+    let lent : length c.new-text.result.bytes.now ≡ 415 = search rules in
+    same_put (c.text.ensures ∙ told c.header_text.ensures (search rules) (omega (arith, header_length_lem))) c.put.ensures

@@ -1,13 +1,15 @@
--- `sheets::rows::put_row` meets its contract: the row's text is handed over.
+-- `sheets::rows::put_row` meets its contract: a row fits a line of its own, and is put.
 -- Assumes nothing.
-use Rattle.std.proofs.Common.{ap, ◌∙◌, arith, length-take}
-use Rattle.texts.specs.Puts.{put_of}
+use Rattle.std.proofs.Common.{◌≡◌, ◌∙◌, length, arith, rules}
+use Rattle.texts.proofs.Lines.{told, same_put}
+use Rattle.dump.specs.Wires.{wires}
+use Rattle.sheets.proofs.Fields.{row_length}
 use Rattle.sheets.proofs.rows.put_row.Goals as goal
-
-pub slice_bounds-put-end : goal.slice_bounds-put-end
-slice_bounds-put-end c = simp length-take (omega arith)
 
 pub returns : goal.returns
 returns c =
     let a = c.args in
-    c.put.ensures ∙ ap (put_of a.line.now a.at) c.row_text-end.ensures.1.text
+    let lent : length c.new-text.result.bytes.now ≡ 74 = search rules in
+    let wide : length a.values ≡ wires = search rules in
+    let short = row_length a.time a.values (omega arith) wide in
+    same_put (c.text.ensures ∙ told c.row_text.ensures (search rules) (omega arith)) c.put.ensures

@@ -1,6 +1,0 @@
--- `dumping::goes_on` meets its contract: the phase is the run's.
--- Assumes nothing.
-use Rattle.dumping.proofs.goes_on.Goals as goal
-
-pub returns : goal.returns
-returns c = simp (c.has_ended.ensures, c.phase-phase.ensures)

@@ -1,0 +1,18 @@
+-- What a call comes to: 0 or refusal 8, the run after it, how much of the part is used, and how many bytes were written.
+-- Assumes nothing.
+use Rattle.std.specs.Prelude.{ℕ, Result, Ok, Err}
+use Rattle.refusals.specs.declared.Refusal.{Refusal}
+use Rattle.refusals.specs.Numbers.{number_of}
+use Rattle.dumping.specs.declared.Waves.{Waves}
+use Rattle.dumping.specs.declared.Took.{Took as Given}
+
+pub record Took : Type 0 where
+  pub waves : Waves
+  pub used : ℕ
+  pub written : ℕ
+  pub refusal : ℕ
+
+-- A refusal has a number, uses and writes nothing, and leaves the run as it was.
+abbrev pub took_says : Waves → Result Given Refusal → Took
+took_says waves (Ok took) = record { waves = took.waves; used = took.used; written = took.written; refusal = 0 }
+took_says waves (Err r) = record { waves = waves; used = 0; written = 0; refusal = number_of r }
