@@ -42,8 +42,8 @@ struct At<T> {
 }
 
 // Runs a task from a controller to its end, from the input to the output, and says on standard error what ended it, if anything did. The header
-// comes first in every case. There is no answer where something failed, which has been said. (The name stands beside the streams, since
-// `desk` has these before it knows whose they are.)
+// comes first in every case. There is no answer where something failed, which has been said, or after more turns than any input takes.
+// (The name stands beside the streams, since `desk` has these before it knows whose they are.)
 pub fn run<T: Task, R: Read, W: Write, E: Write>(
     streams: &mut Streams<R, W, E>,
     name: &[u8],
