@@ -5,7 +5,6 @@ ghost use Rattle.controller.specs.Samples.{agreeing};
 ghost use Rattle.joined.specs.Sensors.{stands_at, no_cylinder, sensors_of, sample_of};
 
 use cylinder::Cylinder;
-use std::array;
 
 // A cylinder stands out at so many parts.
 const STROKE: u32 = 16384;
@@ -59,7 +58,14 @@ fn all(down: bool, since: u32, pressure: bool, cylinders: [Cylinder; 6]) -> [u8;
 fn three_each(sensors: [u8; 18]) -> [u8; 54]
     ensures { result ≡ agreeing sensors }
 {
-    array::from_fn(|i| sensors[i / 3])
+    let mut sample = [0u8; 54];
+    for i in 0..18 {
+        let value = sensors[i];
+        sample[3 * i] = value;
+        sample[3 * i + 1] = value;
+        sample[3 * i + 2] = value;
+    }
+    sample
 }
 
 // 1 where cylinder i stands at exactly so many parts.
