@@ -43,7 +43,9 @@ struct At<T> {
 
 // Runs a task from a controller to its end, from the input to the output, and says on standard error what ended it, if anything did. The header
 // comes first in every case. There is no answer where something failed, which has been said, or after more turns than any input takes.
-// (The name stands beside the streams, since `desk` has these before it knows whose they are.)
+// (The name stands beside the streams, since `desk` has these before it knows whose they are. Not inlined: else the buffers of a task that has one
+// caller lie on the stack of all that this caller does, under every word of `desk`.)
+#[inline(never)]
 pub fn run<T: Task, R: Read, W: Write, E: Write>(
     streams: &mut Streams<R, W, E>,
     name: &[u8],

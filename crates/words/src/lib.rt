@@ -38,6 +38,8 @@ pub struct Streams<R, W, E> {
 }
 
 // A line on standard error: the program's name and what it has to say. Answers whether it was handed to `write` at once, and not piece by piece.
+// (Not inlined: else its room lies on the stack of all that its caller does.)
+#[inline(never)]
 pub fn say<E: Write>(errors: &mut E, name: &[u8], what: &[u8]) -> bool
     ensures { result ≡ is_at_once name.now what.now }
 {
