@@ -199,13 +199,13 @@ module _ (size : ℕ) {out row after : List ℕ} {written next : ℕ} (p : Put o
 -- ---- The end of the dump
 
 -- The last moment is complete exactly where it is not refused.
-last_refused : (r : Reader) (values : List ℕ) → length values ≡ wires → ((finish_of r values).0.refusal ≡ 0 → ⊥) → complete r ≡ false
+pub last_refused : (r : Reader) (values : List ℕ) → length values ≡ wires → ((finish_of r values).0.refusal ≡ 0 → ⊥) → complete r ≡ false
 last_refused r values wide = rw (finish_comes r values wide) (by_test (complete r)) where
   by_test : (t : Bool) → ((last_by t r values).0.refusal ≡ 0 → ⊥) → t ≡ false
   by_test true h = absurd (h refl)
   by_test false h = refl
 
-last_given : (r : Reader) (values : List ℕ) → length values ≡ wires → (finish_of r values).0.refusal ≡ 0 → complete r ≡ true
+pub last_given : (r : Reader) (values : List ℕ) → length values ≡ wires → (finish_of r values).0.refusal ≡ 0 → complete r ≡ true
 last_given r values wide = rw (finish_comes r values wide) (by_test (complete r)) where
   by_test : (t : Bool) → (last_by t r values).0.refusal ≡ 0 → t ≡ true
   by_test true h = refl

@@ -9,8 +9,13 @@ use borrow.Fn.World
 use borrow.Fn.Kinds as FnKinds
 use Rattle.texts.specs.contracts.Line.text as line_text
 use Rattle.common.specs.OneAnswer.{OneAnswer, OneAnswerAnd}
+use Rattle.common.proofs.Pairs.{both}
 use Rattle.texts.proofs.on_off.Kinds as on_off_kinds
 use Rattle.texts.proofs.on_off.Reads as on_off_reads
+use Rattle.texts.proofs.put.Kinds as put_kinds
+use Rattle.texts.proofs.put.Reads as put_reads
+use Rattle.texts.proofs.put_number.Kinds as number_kinds
+use Rattle.texts.proofs.put_number.Reads as number_reads
 use Rattle.texts.proofs.Line.new.Kinds as line_new_kinds
 use Rattle.texts.proofs.Line.new.Reads as line_new_reads
 use Rattle.texts.proofs.Line.put.Kinds as line_put_kinds
@@ -24,6 +29,12 @@ use Rattle.texts.proofs.Line.text.Reads as line_text_reads
 
 pub on_off_once : OneAnswer 0 on_off_kinds.ps on_off_kinds.r on_off_reads.Post
 on_off_once κs a x y s t p q = p ∙ sym q
+
+pub put_once : OneAnswerAnd 2 put_kinds.ps put_kinds.r put_reads.Post (List ℕ) (λ κs s. s.0.now)
+put_once κs a x y s t p q = both (p ∙ sym q)
+
+pub put_number_once : OneAnswerAnd 1 number_kinds.ps number_kinds.r number_reads.Post (List ℕ) (λ κs s. s.0.now)
+put_number_once κs a x y s t p q = both (p ∙ sym q)
 
 pub line_new_once : OneAnswer 1 line_new_kinds.ps line_new_kinds.r line_new_reads.Post
 line_new_once κs a x y s t p q = p ∙ sym q

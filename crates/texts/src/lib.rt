@@ -63,7 +63,7 @@ pub fn on_off(on: bool) -> u8
 
 // Puts a piece of text into a line: the place after it, or the same place where there is no room for it. (`Line::put` hands its two fields over
 // here: a proof knows more of a slice that is lent by itself.)
-fn put(line: &mut [u8], at: usize, piece: &[u8]) -> usize
+pub fn put(line: &mut [u8], at: usize, piece: &[u8]) -> usize
     ensures { (result, line.new) ≡ put_of line.old at piece.now }
 {
     let size = line.len();
@@ -77,7 +77,7 @@ fn put(line: &mut [u8], at: usize, piece: &[u8]) -> usize
 }
 
 // The same for a number.
-fn put_number(line: &mut [u8], at: usize, n: u64) -> usize
+pub fn put_number(line: &mut [u8], at: usize, n: u64) -> usize
     ensures { (result, line.new) ≡ put_of line.old at (decimal n) }
 {
     let digits = width(n);

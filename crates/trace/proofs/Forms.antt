@@ -47,7 +47,7 @@ module _ (row : List ℕ) where
       by_place (inl q) = rw (first_field row at q, ← labelled, ← h)
       by_place (inr q) = rw (from_past row at q)
 
-    both_read : (s : ℕ) → gives s ≡ number_of (up_to_comma (drop at row))
+    pub both_read : (s : ℕ) → gives s ≡ number_of (up_to_comma (drop at row))
         → form_of (fields_of row)
         ≡ parts (gives l) (gives s) (triples_of 18 (fields_from row (at + length (up_to_comma (drop at row)) + 1)))
     unfolding form_of
