@@ -59,8 +59,7 @@ fn three_each(sensors: [u8; 18]) -> [u8; 54]
     ensures { result ≡ agreeing sensors }
 {
     let mut sample = [0u8; 54];
-    for i in 0..18 {
-        let value = sensors[i];
+    for (i, &value) in sensors.iter().enumerate() {
         sample[3 * i] = value;
         sample[3 * i + 1] = value;
         sample[3 * i + 2] = value;

@@ -1,6 +1,6 @@
 -- `joined::sensors::three_each` meets its contract: after i turns the first i sensors stand in front, three times each.
 -- Assumes nothing.
-use Rattle.std.proofs.Common.{◌≡◌, ◌*◌, sym, refl, ap, ◌∙◌, arith, length-set, take_all, rules}
+use Rattle.std.proofs.Common.{◌≡◌, ◌*◌, sym, refl, ap, ◌∙◌, arith, length-set, take_all}
 use Rattle.controller.specs.Samples.{agreeing}
 use Rattle.joined.proofs.Channels.{channels_turn}
 use Rattle.joined.proofs.sensors.three_each.Goals as goal
